@@ -1,0 +1,4 @@
+pub mod LetterSteps
+pub mod LettersRead
+pub mod WordSteps
+pub mod WordsRead

@@ -1,0 +1,5 @@
+mod Agree
+mod Cuts
+mod Derivations
+mod Steps
+mod Tables

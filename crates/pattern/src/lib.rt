@@ -1,0 +1,8 @@
+// Patterns: their bytes are cut into tokens, and the tokens are read as an expression.
+mod cutter;
+pub mod fault;
+pub mod kept;
+pub mod node;
+mod reader;
+mod reading;
+pub mod token;

@@ -1,0 +1,47 @@
+// From a pattern's bytes to the pattern as it is kept.
+ghost use mathlib.Core.Path.{_≡_};
+ghost use lib.ListN.{length};
+ghost use Rattle.std.specs.Results.{Cases};
+ghost use Rattle.pattern.specs.Expressions.{Syntax};
+ghost use Rattle.pattern.specs.Grammar.{Derivable};
+ghost use Rattle.pattern.specs.Patterns.{syntax, written};
+ghost use Rattle.pattern.specs.Scanning.{syntaxOf};
+ghost use Rattle.pattern.specs.Tokens.{SameReading};
+use crate::cutter::cut;
+use crate::fault::Fault;
+use crate::kept::Pattern;
+use crate::reader::parse;
+use alphabet::Alphabet;
+use alphabet::Notation;
+
+const MOST_BYTES: usize = 120;
+
+impl Pattern {
+    // Reads a pattern in a notation, or says what is the first thing wrong with it.
+    pub fn read<N: Notation>(notation: &mut N, bytes: &[u8]) -> Result<Pattern, Fault>
+        ensures pattern_or_first_fault { λ r. ⌜ written r ≡ syntaxOf (N·Notation .reading (now (notation .entry))) (now (bytes .entry)) ⌝ }
+        ensures exactly_what_the_grammar_derives { λ r. ⌜ Cases r (λ p. Derivable (N·Notation .reading (now (notation .entry))) (now (bytes .entry)) (syntax p)) (λ _. (x : Syntax) → Derivable (N·Notation .reading (now (notation .entry))) (now (bytes .entry)) x → ⊥) ⌝ }
+        ensures keeps_meaning { λ _. ⌜ N·Alphabet .meaning (now (notation .exit)) ≡ N·Alphabet .meaning (now (notation .entry)) ⌝ }
+        ensures keeps_reading { λ _. ⌜ SameReading (N·Notation .reading (now (notation .exit))) (N·Notation .reading (now (notation .entry))) ⌝ }
+    {
+        if bytes.len() > MOST_BYTES {
+            return Err(Fault::TooLong);
+        }
+        let tokens = cut(notation, bytes);
+        parse(&tokens.list[0..tokens.len], bytes.len())
+    }
+
+    // How many tests the pattern has.
+    pub fn tests(&self) -> usize
+        ensures { λ r. ⌜ r ≡ length (syntax (now (self .entry)) .codes) ⌝ }
+    {
+        self.tests as usize
+    }
+
+    // How many tags the pattern has.
+    pub fn tags(&self) -> usize
+        ensures { λ r. ⌜ r ≡ syntax (now (self .entry)) .tags ⌝ }
+    {
+        self.tags as usize
+    }
+}

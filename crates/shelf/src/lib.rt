@@ -3,8 +3,10 @@ ghost use mathlib.Core.Path.{_≡_};
 ghost use mathlib.Core.Bool.{cond};
 ghost use lib.ListN.{replicate, set};
 ghost use Rattle.std.specs.Results.{Cases, isOk};
+ghost use Rattle.std.specs.declared.option.Option.the-variants.{None};
 ghost use Rattle.pattern.specs.Tokens.{SameReading};
 ghost use Rattle.shelf.specs.declared.place.Place.the-variants.{Bare};
+ghost use Rattle.shelf.specs.Places.{heldAt};
 ghost use Rattle.shelf.specs.Filing.{filing, counts, FiledAfter, Fileable, withdrawing};
 use alphabet::Alphabet;
 use alphabet::Notation;
@@ -60,6 +62,7 @@ impl<N: Notation> Shelf<N> {
     pub fn withdraw(&mut self, place: usize) -> Result<(), Refusal>
         ensures done_or_refusal { λ r. ⌜ r ≡ withdrawing (now (self .entry) .places) place ⌝ }
         ensures place_is_bare { λ r. ⌜ now (self .exit) .places ≡ cond (isOk r) (set (now (self .entry) .places) place Bare) (now (self .entry) .places) ⌝ }
+        ensures nothing_stands_there { λ _. ⌜ heldAt (now (self .exit) .places) place ≡ None ⌝ }
         ensures keeps_notation { λ _. ⌜ now (self .exit) .notation ≡ now (self .entry) .notation ⌝ }
     {
         match self.places.get(place) {

@@ -1,0 +1,5 @@
+mod Pushes
+mod Lengths
+mod Columns
+mod Recounts
+mod Fronts

@@ -1,0 +1,12 @@
+use mathlib.Core.Path.{sym, ap}
+use Rattle.proofreading.specs.Words.{refusalWords}
+use Rattle.proofreading.proofs.words.refusal_words.Needs as need
+
+pub returns-in-NoSuchPlace : need.returns-in-NoSuchPlace
+returns-in-NoSuchPlace c = sym (ap refusalWords (c .in-NoSuchPlace .is))
+
+pub returns-in-PlaceTaken : need.returns-in-PlaceTaken
+returns-in-PlaceTaken c = sym (ap refusalWords (c .in-PlaceTaken .is))
+
+pub returns-in-PlaceBare : need.returns-in-PlaceBare
+returns-in-PlaceBare c = sym (ap refusalWords (c .in-PlaceBare .is))

@@ -1,0 +1,4 @@
+pub mod Takes
+pub mod Chains
+mod Fronts
+mod Cuts

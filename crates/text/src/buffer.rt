@@ -1,0 +1,13 @@
+// A text that is written byte by byte, with room for so many bytes. What does not fit is left off.
+ghost use Prim.Native.Nat.{_≤_};
+
+mod writing;
+
+pub const ROOM: usize = 2048;
+
+#[derive(Drop)]
+pub struct Text {
+    bytes: [u8; ROOM],
+    len: usize,
+    ghost within: { len ≤ 2048 },
+}

@@ -20,7 +20,8 @@ use Rattle.pattern.specs.declared.reader.Part.{Part}
 use Rattle.pattern.specs.Expressions.{Expr, test, seq, either, star, plus, opt, tag, hasTag}
 use Rattle.pattern.specs.Tokens.{token, codeOf, tagOf}
 use Rattle.pattern.specs.Descent.{Source, source, look, at, kindAt, offsetAt, codesBefore, tagsBefore, codes, tags, isEnd, isOr, isUnit, isClose, isCloseTag, isRepeat, isOpening, Out, good, bad, Want, group, branch, item, unit, branches, items, repeats, Reads, branches-or, items-more, unit-test, unit-group, unit-tag, item-then}
-use Rattle.pattern.specs.Nodes.{node, Stands, a-test, a-seq, an-or, a-star, a-plus, an-opt, a-tag, Means, Noted, Added, Kept, Did, Gone, Repeated, Ready}
+use Rattle.pattern.specs.Trees.{node, Stands, a-test, a-seq, an-or, a-star, a-plus, an-opt, a-tag}
+use Rattle.pattern.specs.Nodes.{Means, Noted, Added, Kept, Did, Gone, Repeated, Ready}
 
 pub absurd-of : {A : Type 0} → false ≡ true → A
 absurd-of e = let z : _≡_ {A = ℕ} 0 1 = cc in elim (no z) [ ]
@@ -80,7 +81,7 @@ moved ns ms u same h (an-opt {k = k} {a = a} x l s) = an-opt (same k h ∙ x) l 
 moved ns ms u same h (a-tag {k = k} {a = a} x l s) = a-tag (same k h ∙ x) l (moved ns ms u same {k = a} (omega arith) s)
 
 -- one place on, the token there is counted
-codes-none : (ts : List Token) → codesBefore ts 0 ≡ []
+pub codes-none : (ts : List Token) → codesBefore ts 0 ≡ []
 codes-none [] = refl
 codes-none (t ∷ ts) = refl
 

@@ -9,7 +9,8 @@ use Rattle.pattern.specs.declared.node.Node.the-variants.{Test, Seq, Or, Star,
 use Rattle.pattern.specs.declared.reader.Reader.{Reader}
 use Rattle.pattern.specs.Expressions.{Expr, test, seq, either, star, plus, opt, tag, Syntax}
 use Rattle.pattern.specs.Descent.{Source, codes, tags}
-use Rattle.pattern.specs.Nodes.{node, tree, Stands, a-test, a-seq, an-or, a-star, a-plus, an-opt, a-tag, Noted}
+use Rattle.pattern.specs.Trees.{node, tree, Stands, a-test, a-seq, an-or, a-star, a-plus, an-opt, a-tag}
+use Rattle.pattern.specs.Nodes.{Noted}
 
 -- the expression of a node, with those of its children at hand
 abbrev one-level : ℕ → List Node → Node → Expr

@@ -1,8 +1,12 @@
 pub mod Descent
 pub mod Expressions
 pub mod Faults
+pub mod Gathering
 pub mod Grammar
 pub mod Nodes
 pub mod Patterns
+pub mod Positions
 pub mod Scanning
+pub mod Spelling
 pub mod Tokens
+pub mod Trees

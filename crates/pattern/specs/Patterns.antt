@@ -6,7 +6,7 @@ use Rattle.std.specs.declared.result.Result.the-variants.{Ok, Err}
 use Rattle.pattern.specs.declared.fault.Fault.{Fault}
 use Rattle.pattern.specs.declared.kept.Pattern.{Pattern}
 use Rattle.pattern.specs.Expressions.{Syntax}
-use Rattle.pattern.specs.Nodes.{tree}
+use Rattle.pattern.specs.Trees.{tree}
 
 abbrev pub syntax : Pattern → Syntax
 syntax p = record { tree = tree 240 (p .nodes) (p .root); codes = take (p .tests) (p .codes); tags = p .tags }

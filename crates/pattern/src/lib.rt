@@ -3,6 +3,7 @@ mod cutter;
 pub mod fault;
 pub mod kept;
 pub mod node;
+mod positions;
 mod reader;
 mod reading;
 pub mod token;

@@ -13,6 +13,7 @@ use crate::fault::Fault;
 use crate::fault::MisreadFault;
 use crate::kept::Pattern;
 use crate::node::Node;
+use crate::positions::automaton;
 use crate::token::Kind;
 use crate::token::Token;
 
@@ -250,11 +251,13 @@ pub(crate) fn parse(tokens: &[Token], end: usize) -> Result<Pattern, Fault>
     if !end_at(tokens, end, reader.pos) {
         return Err(Fault::LooseBracket(behind.offset));
     }
+    let machine = automaton(&reader.nodes, whole.root);
     Ok(Pattern {
         nodes: reader.nodes,
         root: whole.root,
         codes: reader.codes,
         tests: reader.tests,
         tags: reader.tags,
+        machine,
     })
 }

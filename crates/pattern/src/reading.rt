@@ -1,10 +1,12 @@
 // From a pattern's bytes to the pattern as it is kept.
 ghost use mathlib.Core.Path.{_≡_};
+ghost use Prim.Native.Nat.{_≤_};
 ghost use lib.ListN.{length};
 ghost use Rattle.std.specs.Results.{Cases};
 ghost use Rattle.pattern.specs.Expressions.{Syntax};
 ghost use Rattle.pattern.specs.Grammar.{Derivable};
 ghost use Rattle.pattern.specs.Patterns.{syntax, written};
+ghost use Rattle.pattern.specs.Spelling.{HasWords};
 ghost use Rattle.pattern.specs.Scanning.{syntaxOf};
 ghost use Rattle.pattern.specs.Tokens.{SameReading};
 use crate::cutter::cut;
@@ -13,6 +15,7 @@ use crate::kept::Pattern;
 use crate::reader::parse;
 use alphabet::Alphabet;
 use alphabet::Notation;
+use automaton::Automaton;
 
 const MOST_BYTES: usize = 120;
 
@@ -29,6 +32,23 @@ impl Pattern {
         }
         let tokens = cut(notation, bytes);
         parse(&tokens.list[0..tokens.len], bytes.len())
+    }
+
+    // The numbers by which the alphabet keeps the tests, in their order.
+    pub fn codes(&self) -> &[u32]
+        ensures codes { λ r. ⌜ now r ≡ syntax (now (self .entry)) .codes ⌝ }
+        ensures few { λ r. ⌜ length (now r) ≤ 64 ⌝ }
+    {
+        let tests = self.tests as usize;
+        let all = &self.codes[..];
+        &all[0..tests]
+    }
+
+    // The position automaton, which has exactly the pattern's words.
+    pub fn automaton(&self) -> &Automaton
+        ensures { λ r. ⌜ HasWords (length (syntax (now (self .entry)) .codes)) (syntax (now (self .entry)) .tree) (now r) ⌝ }
+    {
+        &self.machine
     }
 
     // How many tests the pattern has.

@@ -16,7 +16,7 @@ use Rattle.alphabet.specs.declared.Cause.{Cause}
 use Rattle.alphabet.specs.declared.Cause.the-variants.{CutShort, OutOfRange, UnknownForm}
 use Rattle.pattern.specs.declared.fault.Fault.the-variants.{TooLong, BadTest, MissingUnit, LooseBracket, TooDeep, TooManyTests, TooManyTags, RepeatedTag}
 use Rattle.shelf.specs.declared.refusal.Refusal.{Refusal}
-use Rattle.shelf.specs.declared.refusal.Refusal.the-variants.{NoSuchPlace, PlaceTaken, PlaceBare, Unlawful}
+use Rattle.shelf.specs.declared.refusal.Refusal.the-variants.{NoSuchPlace, PlaceTaken, PlaceBare, Unlawful, LineTooLong, BufferTooShort, NoMatch}
 use Rattle.shelf.specs.Refusals.{refusalNumber, refusalOffset, refusalCause}
 use Rattle.alphabet.specs.Causes.{causeNumber}
 use Rattle.proofreading.specs.declared.tally.Tally.{Tally}
@@ -79,6 +79,9 @@ words-short (Unlawful (TooDeep at)) = lit≤ tt
 words-short (Unlawful (TooManyTests at)) = lit≤ tt
 words-short (Unlawful (TooManyTags at)) = lit≤ tt
 words-short (Unlawful (RepeatedTag at)) = lit≤ tt
+words-short LineTooLong = lit≤ tt
+words-short BufferTooShort = lit≤ tt
+words-short NoMatch = lit≤ tt
 
 offset-short : (o : Option ℕ) → length (offsetText o) ≤ 68
 offset-short None = omega arith
@@ -107,7 +110,7 @@ finding-short : (bs : List ℕ) (v : Verdict) → length (findingText bs v) ≤ 
 finding-short bs (Ok counts) = omega (arith, lawful-short bs (counts .0) (counts .1))
 finding-short bs (Err r) = refused-short bs r
 
-pub verdict-fits : (line : ℕ) (bs : List ℕ) (v : Verdict) → length (verdictText line bs v) ≤ 2048
+pub verdict-fits : (line : ℕ) (bs : List ℕ) (v : Verdict) → length (verdictText line bs v) ≤ 4096
 verdict-fits line bs v = omega (arith, length-append (decimal line) (findingText bs v), decimal-short line, finding-short bs v)
 
 -- none of the names is longer than n
@@ -121,7 +124,7 @@ within-at n (x ∷ xs) zero w = w .0
 within-at n (x ∷ xs) (suc i) w = within-at n xs i (w .1)
 
 name-short : (n : ℕ) → length (refusalName n) ≤ 14
-name-short n = within-at 14 refusalNames n (lit≤ tt, (lit≤ tt, (lit≤ tt, (lit≤ tt, (lit≤ tt, (lit≤ tt, (lit≤ tt, (lit≤ tt, (lit≤ tt, (lit≤ tt, (lit≤ tt, (lit≤ tt, tt))))))))))))
+name-short n = within-at 14 refusalNames n (lit≤ tt, (lit≤ tt, (lit≤ tt, (lit≤ tt, (lit≤ tt, (lit≤ tt, (lit≤ tt, (lit≤ tt, (lit≤ tt, (lit≤ tt, (lit≤ tt, (lit≤ tt, (lit≤ tt, (lit≤ tt, (lit≤ tt, (lit≤ tt, tt))))))))))))))))
 
 line-short : (n k : ℕ) → length (numberLine n k) ≤ 160
 line-short n k =
@@ -140,7 +143,7 @@ head-short patterns lawful refused =
     let last : List ℕ = codes " lawful, " ++ (decimal refused ++ codes " refused\n") in
     omega (arith, length-append (counted patterns (codes "pattern")) (codes ", " ++ (decimal lawful ++ last)), counted-short patterns (codes "pattern"), length-append (decimal lawful) last, decimal-short lawful, length-append (decimal refused) (codes " refused\n"), decimal-short refused)
 
-pub report-fits : (t : Tally) → length (t .«by_number») ≡ 12 → length (reportText t) ≤ 2048
+pub report-fits : (t : Tally) → length (t .«by_number») ≡ 16 → length (reportText t) ≤ 4096
 report-fits t e =
     let counts = drop 1 (t .«by_number») in
     omega (arith, length-append (reportHead (t .patterns) (t .lawful) (t .refused)) (numberLines 1 counts), head-short (t .patterns) (t .lawful) (t .refused), lines-short 1 counts, length-drop 1 (t .«by_number»))

@@ -14,13 +14,13 @@ use Rattle.pattern.specs.declared.fault.Fault.{Fault}
 use Rattle.pattern.specs.declared.fault.Fault.the-variants.{TooLong, BadTest, MissingUnit, LooseBracket, TooDeep, TooManyTests, TooManyTags, RepeatedTag}
 use Rattle.pattern.specs.Faults.{faultNumber}
 use Rattle.shelf.specs.declared.refusal.Refusal.{Refusal}
-use Rattle.shelf.specs.declared.refusal.Refusal.the-variants.{NoSuchPlace, PlaceTaken, PlaceBare, Unlawful}
+use Rattle.shelf.specs.declared.refusal.Refusal.the-variants.{NoSuchPlace, PlaceTaken, PlaceBare, Unlawful, LineTooLong, BufferTooShort, NoMatch}
 use Rattle.shelf.specs.Refusals.{refusalNumber}
 use Rattle.proofreading.specs.declared.tally.Tally.{Tally}
 use Rattle.proofreading.specs.Verdicts.{Verdict}
 use Rattle.proofreading.specs.Tallies.{noneYet, capped, oneMore, tallied, lawfulIn, refusedIn, numberedIn, Tallies, Starts, Counts}
 
-fault-below : (f : Fault) → faultNumber f < 12
+fault-below : (f : Fault) → faultNumber f < 16
 fault-below TooLong = lit< tt
 fault-below (BadTest m) = lit< tt
 fault-below (MissingUnit at) = lit< tt
@@ -30,11 +30,14 @@ fault-below (TooManyTests at) = lit< tt
 fault-below (TooManyTags at) = lit< tt
 fault-below (RepeatedTag at) = lit< tt
 
-number-below : (r : Refusal) → refusalNumber r < 12
+number-below : (r : Refusal) → refusalNumber r < 16
 number-below NoSuchPlace = lit< tt
 number-below PlaceTaken = lit< tt
 number-below PlaceBare = lit< tt
 number-below (Unlawful f) = fault-below f
+number-below LineTooLong = lit< tt
+number-below BufferTooShort = lit< tt
+number-below NoMatch = lit< tt
 
 one-more : (m n : ℕ) → m ≡ capped n → oneMore m ≡ capped (n + 1)
 one-more m n e = omega arith
@@ -45,10 +48,10 @@ numbered-more ks m n k h e = ⊎-elim
     (λ (other : m ≡ n → ⊥). getD-set-other ks m n (oneMore (getD ks m 0)) 0 (λ s. other (sym s)) ∙ e ∙ ap capped (sym (cond-false (eqb m n) (k + 1) k (ne-eqb m n other))))
     (cases-eq m n)
 
-more : (t : Tally) (v : Verdict) → length (t .«by_number») ≡ 12 → (vs : List Verdict) → Tallies vs t → Tallies (v ∷ vs) (tallied t v)
-more t (Ok counts) twelve vs k =
+more : (t : Tally) (v : Verdict) → length (t .«by_number») ≡ 16 → (vs : List Verdict) → Tallies vs t → Tallies (v ∷ vs) (tallied t v)
+more t (Ok counts) sixteen vs k =
     record { patterns = one-more (t .patterns) (length vs) (k .patterns) ∙ ap capped (omega arith); lawful = one-more (t .lawful) (lawfulIn vs) (k .lawful); refused = k .refused; numbered = k .numbered }
-more t (Err r) twelve vs k =
+more t (Err r) sixteen vs k =
     record {
       patterns = one-more (t .patterns) (length vs) (k .patterns) ∙ ap capped (omega arith);
       lawful = k .lawful;
@@ -56,12 +59,12 @@ more t (Err r) twelve vs k =
       numbered = λ n h. numbered-more (t .«by_number») (refusalNumber r) n (numberedIn n vs) (omega (arith, number-below r)) (k .numbered n h);
     }
 
-pub recounted : {t u : Tally} {v : Verdict} → u ≡ tallied t v → length (t .«by_number») ≡ 12 → Counts t v u
-recounted {t} {u} {v} e twelve = record { value = e; counts = λ vs k. subst (λ x. Tallies (v ∷ vs) x) (sym e) (more t v twelve vs k) }
+pub recounted : {t u : Tally} {v : Verdict} → u ≡ tallied t v → length (t .«by_number») ≡ 16 → Counts t v u
+recounted {t} {u} {v} e sixteen = record { value = e; counts = λ vs k. subst (λ x. Tallies (v ∷ vs) x) (sym e) (more t v sixteen vs k) }
 
 pub none-yet : {t : Tally} → t ≡ noneYet → Starts t
 none-yet {t} e =
     record {
       value = e;
-      counts = subst (λ x. Tallies [] x) (sym e) (record { patterns = refl; lawful = refl; refused = refl; numbered = λ n h. getD-replicate {A = ℕ} 12 n 0 0 h });
+      counts = subst (λ x. Tallies [] x) (sym e) (record { patterns = refl; lawful = refl; refused = refl; numbered = λ n h. getD-replicate {A = ℕ} 16 n 0 0 h });
     }

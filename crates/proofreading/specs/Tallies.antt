@@ -11,7 +11,7 @@ use Rattle.proofreading.specs.declared.tally.Tally.{Tally}
 use Rattle.proofreading.specs.Verdicts.{Verdict}
 
 abbrev pub noneYet : Tally
-noneYet = record { patterns = 0; lawful = 0; refused = 0; «by_number» = replicate 12 0 }
+noneYet = record { patterns = 0; lawful = 0; refused = 0; «by_number» = replicate 16 0 }
 
 -- a count, up to the largest number that a counter holds
 abbrev pub capped : ℕ → ℕ
@@ -53,7 +53,7 @@ pub record Tallies (vs : List Verdict) (t : Tally) : Type 0 where
   pub patterns : t .patterns ≡ capped (length vs)
   pub lawful : t .lawful ≡ capped (lawfulIn vs)
   pub refused : t .refused ≡ capped (refusedIn vs)
-  pub numbered : (n : ℕ) → n < 12 → getD (t .«by_number») n 0 ≡ capped (numberedIn n vs)
+  pub numbered : (n : ℕ) → n < 16 → getD (t .«by_number») n 0 ≡ capped (numberedIn n vs)
 
 -- a tally that has no verdict yet
 pub record Starts (t : Tally) : Type 0 where

@@ -10,7 +10,7 @@ use Rattle.alphabet.specs.declared.Cause.{Cause}
 use Rattle.alphabet.specs.declared.Cause.the-variants.{CutShort, OutOfRange, UnknownForm}
 use Rattle.pattern.specs.declared.fault.Fault.the-variants.{TooLong, BadTest, MissingUnit, LooseBracket, TooDeep, TooManyTests, TooManyTags, RepeatedTag}
 use Rattle.shelf.specs.declared.refusal.Refusal.{Refusal}
-use Rattle.shelf.specs.declared.refusal.Refusal.the-variants.{NoSuchPlace, PlaceTaken, PlaceBare, Unlawful}
+use Rattle.shelf.specs.declared.refusal.Refusal.the-variants.{NoSuchPlace, PlaceTaken, PlaceBare, Unlawful, LineTooLong, BufferTooShort, NoMatch}
 
 -- why bytes are no test
 abbrev pub causeWords : Cause → List ℕ
@@ -31,8 +31,11 @@ refusalWords (Unlawful (TooDeep at)) = codes "more than 8 groups are open"
 refusalWords (Unlawful (TooManyTests at)) = codes "more than 64 tests"
 refusalWords (Unlawful (TooManyTags at)) = codes "more than 8 tags"
 refusalWords (Unlawful (RepeatedTag at)) = codes "a * or + repeats a tag"
+refusalWords LineTooLong = codes "a line of more than 160 symbols"
+refusalWords BufferTooShort = codes "the buffer is too short"
+refusalWords NoMatch = codes "nothing reads"
 
--- the short names of the refusals, by number from 0, which no refusal has
+-- the short names of the refusals, by number; no refusal has the numbers 0 and 14
 abbrev pub refusalNames : List (List ℕ)
 refusalNames =
     codes ""
@@ -47,6 +50,10 @@ refusalNames =
     ∷ codes "too many tests"
     ∷ codes "too many tags"
     ∷ codes "repeated tag"
+    ∷ codes "line too long"
+    ∷ codes "short buffer"
+    ∷ codes ""
+    ∷ codes "no match"
     ∷ []
 
 abbrev pub refusalName : ℕ → List ℕ

@@ -40,7 +40,7 @@ pub fn write_report(out: &mut Text, tally: &Tally)
 {
     out.clear();
     write_head(out, tally.patterns, tally.lawful, tally.refused);
-    for number in 1..12 {
+    for number in 1..16 {
         write_number(out, number, tally.by_number[number]);
     }
 }

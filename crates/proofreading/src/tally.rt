@@ -7,7 +7,7 @@ pub struct Tally {
     pub patterns: u64,
     pub lawful: u64,
     pub refused: u64,
-    pub by_number: [u64; 12],
+    pub by_number: [u64; 16],
 }
 
 impl Tally {
@@ -18,7 +18,7 @@ impl Tally {
             patterns: 0,
             lawful: 0,
             refused: 0,
-            by_number: [0; 12],
+            by_number: [0; 16],
         }
     }
 

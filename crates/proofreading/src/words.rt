@@ -42,6 +42,9 @@ pub(crate) fn refusal_words(refusal: Refusal) -> &'static [u8]
         Refusal::PlaceTaken => b"the place is taken",
         Refusal::PlaceBare => b"the place has no pattern",
         Refusal::Unlawful(fault) => fault_words(fault),
+        Refusal::LineTooLong => b"a line of more than 160 symbols",
+        Refusal::BufferTooShort => b"the buffer is too short",
+        Refusal::NoMatch => b"nothing reads",
     }
 }
 
@@ -61,6 +64,9 @@ pub(crate) fn refusal_name(number: usize) -> &'static [u8]
         9 => b"too many tests",
         10 => b"too many tags",
         11 => b"repeated tag",
+        12 => b"line too long",
+        13 => b"short buffer",
+        15 => b"no match",
         _ => b"",
     }
 }

@@ -12,8 +12,10 @@ use alphabet::Alphabet;
 use alphabet::Notation;
 use pattern::kept::Pattern;
 
+mod asking;
 mod place;
 pub mod refusal;
+mod reports;
 
 use place::Place;
 use refusal::FaultRefusal;

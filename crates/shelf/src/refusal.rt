@@ -13,6 +13,9 @@ pub enum Refusal {
     PlaceTaken,
     PlaceBare,
     Unlawful(Fault),
+    LineTooLong,
+    BufferTooShort,
+    NoMatch,
 }
 
 pub impl From<Fault> for Refusal as FaultRefusal {
@@ -33,6 +36,9 @@ impl Refusal {
             Refusal::PlaceTaken => 2,
             Refusal::PlaceBare => 3,
             Refusal::Unlawful(fault) => fault.number(),
+            Refusal::LineTooLong => 12,
+            Refusal::BufferTooShort => 13,
+            Refusal::NoMatch => 15,
         }
     }
 

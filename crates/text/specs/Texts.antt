@@ -10,4 +10,4 @@ written t = take (t .len) (t .bytes)
 
 -- after holds what before holds and then bs, as much of it as there is room for
 pub record Adds (before : Text) (bs : List ℕ) (after : Text) : Type 0 where
-  pub bytes : written after ≡ take 2048 (written before ++ bs)
+  pub bytes : written after ≡ take 4096 (written before ++ bs)

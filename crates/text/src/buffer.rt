@@ -3,11 +3,11 @@ ghost use Prim.Native.Nat.{_≤_};
 
 mod writing;
 
-pub const ROOM: usize = 2048;
+pub const ROOM: usize = 4096;
 
 #[derive(Drop)]
 pub struct Text {
     bytes: [u8; ROOM],
     len: usize,
-    ghost within: { len ≤ 2048 },
+    ghost within: { len ≤ 4096 },
 }

@@ -18,8 +18,8 @@ loop-number-again c = lines-more (c .args .tally .now .«by_number») (c .loop-n
 pub returns : need.returns
 returns c =
     let counts = c .args .tally .now .«by_number» in
-    let twelve : length counts ≡ 12 = omega arith in
+    let sixteen : length counts ≡ 16 = omega arith in
     let rest = drop 1 counts in
     let all : length rest ≤ c .loop-number .number - 1 = omega (arith, length-drop 1 counts) in
     let text = c .write-head .ensures then read-as (ap (numberLines 1) (take-all (c .loop-number .number - 1) rest all)) (c .loop-number .inv) in
-    alone (c .clear .ensures) text (report-fits (c .args .tally .now) twelve)
+    alone (c .clear .ensures) text (report-fits (c .args .tally .now) sixteen)

@@ -34,3 +34,12 @@ returns-in-10 c = sym (ap refusalName (c .in-10 .is))
 
 pub returns-in-11 : need.returns-in-11
 returns-in-11 c = sym (ap refusalName (c .in-11 .is))
+
+pub returns-in-12 : need.returns-in-12
+returns-in-12 c = sym (ap refusalName (c .in-12 .is))
+
+pub returns-in-13 : need.returns-in-13
+returns-in-13 c = sym (ap refusalName (c .in-13 .is))
+
+pub returns-in-15 : need.returns-in-15
+returns-in-15 c = sym (ap refusalName (c .in-15 .is))

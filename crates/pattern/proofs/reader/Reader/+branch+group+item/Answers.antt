@@ -8,7 +8,8 @@ use Rattle.pattern.specs.declared.token.Kind.{Kind}
 use Rattle.pattern.specs.declared.node.Node.{Node}
 use Rattle.pattern.specs.Expressions.{seq, either}
 use Rattle.pattern.specs.Descent.{source, isOr, isOpening, unit, item, branch, items, branches, group-then, group-bad, branches-end, branches-or, branches-bad, branch-then, branch-bad, items-end, items-more, items-bad, item-bad, unit-misread, unit-tests, unit-deep, unit-group-bad, unit-group-loose, unit-tags, unit-tag-bad, unit-tag-loose, unit-none}
-use Rattle.pattern.specs.Nodes.{Did, a-seq, an-or}
+use Rattle.pattern.specs.Nodes.{Did}
+use Rattle.pattern.specs.Trees.{a-seq, an-or}
 use Rattle.pattern.proofs.Steps.{ended, stopped, joined-turn, ready-past, ready-tag, test-unit, group-unit, tag-unit, repeated, at-some, at-kind, is-or, no-unit, kind-is, faulted}
 use Rattle.pattern.proofs.reader.Reader.+branch+group+item.Needs as need
 use Rattle.pattern.proofs.reader.Reader.+branch+group+item.Needs.{item-Joined-token, item-in-Test·in-Continue-code·else-self-ge-MOST-TESTS, item-in-Open·else-depth-ge-MOST-OPEN·in-Continue-inner·else-not-close-at, item-in-OpenTag·else-depth-ge-MOST-OPEN-2·else-self-ge-MOST-TAGS·in-Continue-inner-2·else-not-close-tag-at}

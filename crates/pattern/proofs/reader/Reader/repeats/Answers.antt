@@ -6,7 +6,7 @@ use Rattle.pattern.specs.declared.fault.Fault.the-variants.{RepeatedTag}
 use Rattle.pattern.specs.declared.token.Kind.{Kind}
 use Rattle.pattern.specs.Expressions.{star, plus, opt}
 use Rattle.pattern.specs.Descent.{source, repeats-star-tag, repeats-plus-tag, repeats-end, repeats-star, repeats-plus, repeats-opt}
-use Rattle.pattern.specs.Nodes.{a-star, a-plus, an-opt}
+use Rattle.pattern.specs.Trees.{a-star, a-plus, an-opt}
 use Rattle.pattern.proofs.Steps.{repeat-turn, no-repeat, at-some, kind-is, faulted}
 use Rattle.pattern.proofs.reader.Reader.repeats.Needs as need
 use Rattle.pattern.proofs.reader.Reader.repeats.Needs.{Joined-token, in-Star·else-part, in-Plus·else-part-2, in-Opt}

@@ -1,0 +1,4 @@
+pub mod Bits
+mod Turns
+mod Ends
+mod Marking

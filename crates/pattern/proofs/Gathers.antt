@@ -61,6 +61,9 @@ module _ (ns : List Node) (k : ℕ) (r : Numerable ns k) where
 pub same-gathered : {e f : Expr} {l : Edges} {f₀ f₁ : List ℕ} → e ≡ f → Gathered f l f₀ f₁ → Gathered e l f₀ f₁
 same-gathered {l = l} {f₀ = f₀} {f₁ = f₁} h a = subst (λ x. Gathered x l f₀ f₁) (sym h) a
 
+pub same-edges : {e : Expr} {l m : Edges} {f₀ f₁ : List ℕ} → l ≡ m → Gathered e m f₀ f₁ → Gathered e l f₀ f₁
+same-edges {e = e} {f₀ = f₀} {f₁ = f₁} h a = subst (λ x. Gathered e x f₀ f₁) (sym h) a
+
 or-assoc : (a b c : Bool) → (a || b) || c ≡ a || (b || c)
 or-assoc true b c = refl
 or-assoc false b c = refl

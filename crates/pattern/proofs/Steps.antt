@@ -21,7 +21,7 @@ use Rattle.pattern.specs.Expressions.{Expr, test, seq, either, star, plus, opt
 use Rattle.pattern.specs.Tokens.{token, codeOf, tagOf}
 use Rattle.pattern.specs.Descent.{Source, source, look, at, kindAt, offsetAt, codesBefore, tagsBefore, codes, tags, isEnd, isOr, isUnit, isClose, isCloseTag, isRepeat, isOpening, Out, good, bad, Want, group, branch, item, unit, branches, items, repeats, Reads, branches-or, items-more, unit-test, unit-group, unit-tag, item-then}
 use Rattle.pattern.specs.Trees.{node, Stands, a-test, a-seq, an-or, a-star, a-plus, an-opt, a-tag}
-use Rattle.pattern.specs.Nodes.{Means, Noted, Added, Kept, Did, Gone, Repeated, Ready}
+use Rattle.pattern.specs.Nodes.{Means, Noted, Added, Tested, Kept, Did, Gone, Repeated, Ready}
 
 pub absurd-of : {A : Type 0} → false ≡ true → A
 absurd-of e = let z : _≡_ {A = ℕ} 0 1 = cc in elim (no z) [ ]
@@ -312,7 +312,7 @@ ready-tag {s = s} {A = A} h is =
     record { within = omega arith; small = h .small; room = omega arith; noted = noted-past {r = A} Kind.OpenTag is refl refl refl refl refl (h .noted) }
 
 -- the three units
-pub test-unit : {s : Source} {A r : Reader} {d c k : ℕ} → Ready s A → kindAt s (A .pos) ≡ Kind.Test (Ok c) → A .tests < 64 → Added (Node.Test (A .tests + 1)) (record { pos = A .pos + 1; nodes = A .nodes; used = A .used; codes = set (A .codes) (A .tests) c; tests = A .tests + 1; tags = A .tags }) k r → Did (unit d) s A (record { root = k; tagged = false }) r
+test-unit : {s : Source} {A r : Reader} {d c k : ℕ} → Ready s A → kindAt s (A .pos) ≡ Kind.Test (Ok c) → A .tests < 64 → Added (Node.Test (A .tests + 1)) (record { pos = A .pos + 1; nodes = A .nodes; used = A .used; codes = set (A .codes) (A .tests) c; tests = A .tests + 1; tags = A .tags }) k r → Did (unit d) s A (record { root = k; tagged = false }) r
 test-unit {s = s} {A = A} {r = r} {d = d} h is few a =
     let l : A .pos < length (s .list) = at-some s (A .pos) _ is refl in
     let n = h .noted in
@@ -334,6 +334,9 @@ test-unit {s = s} {A = A} {r = r} {d = d} h is few a =
       reads = let P : ℕ → Type 0 = λ j. Reads s (unit d) (A .pos) (good (test (length (codes s (A .pos)) + 1)) j) in subst P (sym pe) (unit-test is (omega (arith, n .tests-are)));
       means = record { stands = a-test (a .here ∙ ap (λ x. Node.Test (x + 1)) (n .tests-are)); mark = refl };
     }
+
+pub tested-unit : {s : Source} {A r : Reader} {d c : ℕ} {k : Part} → Ready s A → kindAt s (A .pos) ≡ Kind.Test (Ok c) → A .tests < 64 → Tested c A k r → Did (unit d) s A k r
+tested-unit {s = s} {A = A} {r = r} {d = d} {k = k} h is few t = subst (λ b. Did (unit d) s A (record { root = k .root; tagged = b }) r) (sym (t .untagged)) (test-unit h is few (t .added))
 
 pub group-unit : {s : Source} {A r : Reader} {d : ℕ} {k : Part} → kindAt s (A .pos) ≡ Kind.Open → d < 8 → Did (group (d + 1)) s (past A) k r → isClose (kindAt s (r .pos)) ≡ true → Did (unit d) s A k (past r)
 group-unit {s = s} {A = A} {r = r} is few d m =

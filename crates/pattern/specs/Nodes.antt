@@ -2,7 +2,8 @@
 use Prim.Native.Nat.{ℕ, _+_, _*_, _<_, _≤_}
 use mathlib.Core.Path.{_≡_}
 use mathlib.Core.List.{List}
-use lib.ListN.{length, take}
+use mathlib.Core.Bool.{false}
+use lib.ListN.{length, take, set}
 use Rattle.pattern.specs.declared.node.Node.{Node}
 use Rattle.pattern.specs.declared.reader.Part.{Part}
 use Rattle.pattern.specs.declared.reader.Reader.{Reader}
@@ -32,6 +33,11 @@ pub record Added (n : Node) (before : Reader) (k : ℕ) (after : Reader) : Type 
   pub tags : after .tags ≡ before .tags
   pub here : node (after .nodes) k ≡ n
   pub others : (j : ℕ) → j < before .used → node (after .nodes) j ≡ node (before .nodes) j
+
+-- a test of this number was added, and k stands for it
+pub record Tested (code : ℕ) (before : Reader) (k : Part) (after : Reader) : Type 0 where
+  pub added : Added (Node.Test (before .tests + 1)) (record { pos = before .pos + 1; nodes = before .nodes; used = before .used; codes = set (before .codes) (before .tests) code; tests = before .tests + 1; tags = before .tags }) (k .root) after
+  pub untagged : k .tagged ≡ false
 
 -- what each part of the reading may start from
 pub record Ready (s : Source) (r : Reader) : Type 0 where

@@ -1,7 +1,8 @@
 // The position automaton of a pattern, from its nodes.
 ghost use mathlib.Core.Path.{_≡_};
-ghost use mathlib.Core.Bool.{_&&_, _||_, cond};
+ghost use mathlib.Core.Bool.{true, _&&_, _||_};
 ghost use Prim.Native.Nat.{ℕ, _<_};
+ghost use lib.Bits.{bitOr};
 ghost use lib.ListN.{length, getD};
 ghost use Rattle.pattern.specs.Expressions.{Expr};
 ghost use Rattle.pattern.specs.Trees.{Stands};
@@ -42,6 +43,27 @@ fn in_row(left: Edges, right: Edges) -> Edges
     }
 }
 
+// The edges of one of two expressions.
+fn either(left: Edges, right: Edges) -> Edges
+    ensures { λ r. ⌜ r ≡ record { nullable = left .nullable || right .nullable; first = bitOr (left .first) (right .first); last = bitOr (left .last) (right .last) } ⌝ }
+{
+    Edges {
+        nullable: left.nullable | right.nullable,
+        first: left.first | right.first,
+        last: left.last | right.last,
+    }
+}
+
+// The same edges, with the empty word.
+fn or_none(inner: Edges) -> Edges
+    ensures { λ r. ⌜ r ≡ record { nullable = true; first = inner .first; last = inner .last } ⌝ }
+{
+    Edges {
+        nullable: true,
+        ..inner
+    }
+}
+
 // The edges of a node's expression; what may follow what in it is added to `follow`.
 fn gather(nodes: &[Node; 240], k: u8, follow: &mut [u64; 64]) -> Edges
     requires { ⌜ Numerable (now nodes) k ⌝ }
@@ -66,20 +88,12 @@ fn gather(nodes: &[Node; 240], k: u8, follow: &mut [u64; 64]) -> Edges
         Node::Or(a, b) => {
             let left = gather(nodes, a, follow);
             let right = gather(nodes, b, follow);
-            Edges {
-                nullable: left.nullable | right.nullable,
-                first: left.first | right.first,
-                last: left.last | right.last,
-            }
+            either(left, right)
         }
         Node::Star(a) => {
             let inner = gather(nodes, a, follow);
             link(follow, inner.last, inner.first);
-            Edges {
-                nullable: true,
-                first: inner.first,
-                last: inner.last,
-            }
+            or_none(inner)
         }
         Node::Plus(a) => {
             let inner = gather(nodes, a, follow);
@@ -88,11 +102,7 @@ fn gather(nodes: &[Node; 240], k: u8, follow: &mut [u64; 64]) -> Edges
         }
         Node::Opt(a) => {
             let inner = gather(nodes, a, follow);
-            Edges {
-                nullable: true,
-                first: inner.first,
-                last: inner.last,
-            }
+            or_none(inner)
         }
         Node::Tag(_, a) => gather(nodes, a, follow),
     }

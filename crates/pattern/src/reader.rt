@@ -6,7 +6,7 @@ ghost use lib.ListN.{length};
 ghost use Rattle.std.specs.Results.{Cases};
 ghost use Rattle.pattern.specs.Expressions.{Expr};
 ghost use Rattle.pattern.specs.Descent.{source, at, kindAt, isOr, isUnit, isClose, isCloseTag, isEnd, Want, Reads, bad};
-ghost use Rattle.pattern.specs.Nodes.{Did, Ready, Added, Kept, Means, Repeated};
+ghost use Rattle.pattern.specs.Nodes.{Did, Ready, Added, Tested, Kept, Means, Repeated};
 ghost use Rattle.pattern.specs.Patterns.{written};
 ghost use Rattle.pattern.specs.Scanning.{scanned};
 use crate::fault::Fault;
@@ -110,6 +110,21 @@ impl Reader {
         at
     }
 
+    // One test more, under the next number.
+    fn test(&mut self, code: u32) -> Part
+        requires { ⌜ now self .used < 240 ⌝ ∗ ⌜ now self .tests < 64 ⌝ ∗ ⌜ now self .pos < 120 ⌝ }
+        ensures { λ r. ⌜ Tested code (now (self .entry)) r (now (self .exit)) ⌝ }
+    {
+        let tests = self.tests;
+        self.pos += 1;
+        self.codes[tests as usize] = code;
+        self.tests = tests + 1;
+        Part {
+            root: self.add(Node::Test(tests + 1)),
+            tagged: false,
+        }
+    }
+
     // The `*`, `+` and `?` after a unit.
     fn repeats(&mut self, tokens: &[Token], end: usize, unit: Part) -> Result<Part, Fault>
         requires { ⌜ Ready (source (now tokens) end) (now self) ⌝ ∗ ⌜ unit .root < now self .used ⌝ }
@@ -184,14 +199,7 @@ impl Reader {
                 if self.tests >= MOST_TESTS {
                     return Err(Fault::TooManyTests(token.offset));
                 }
-                let tests = self.tests;
-                self.pos += 1;
-                self.codes[tests as usize] = code;
-                self.tests = tests + 1;
-                Part {
-                    root: self.add(Node::Test(tests + 1)),
-                    tagged: false,
-                }
+                self.test(code)
             }
             Kind::Open => {
                 if depth >= MOST_OPEN {

@@ -39,9 +39,9 @@ impl Pattern {
         ensures codes { λ r. ⌜ now r ≡ syntax (now (self .entry)) .codes ⌝ }
         ensures few { λ r. ⌜ length (now r) ≤ 64 ⌝ }
     {
-        let tests = self.tests as usize;
+        let count = self.tests as usize;
         let all = &self.codes[..];
-        &all[0..tests]
+        &all[0..count]
     }
 
     // The position automaton, which has exactly the pattern's words.
@@ -55,7 +55,7 @@ impl Pattern {
     pub fn tests(&self) -> usize
         ensures { λ r. ⌜ r ≡ length (syntax (now (self .entry)) .codes) ⌝ }
     {
-        self.tests as usize
+        self.codes().len()
     }
 
     // How many tags the pattern has.

@@ -12,7 +12,7 @@ use Rattle.pattern.specs.Expressions.{Expr}
 use Rattle.pattern.specs.Positions.{size, numbered}
 use Rattle.pattern.specs.Trees.{node, Stands}
 use Rattle.pattern.specs.Gathering.{Numerable, Gathered}
-use Rattle.pattern.proofs.Gathers.{view, test-number, part, two-parts, gathered-test, gathered-seq, gathered-either, gathered-star, gathered-plus, gathered-opt, gathered-tag, same-gathered}
+use Rattle.pattern.proofs.Gathers.{view, test-number, part, two-parts, gathered-test, gathered-seq, gathered-either, gathered-star, gathered-plus, gathered-opt, gathered-tag, same-gathered, same-edges}
 use Rattle.pattern.proofs.positions.+gather.Needs as need
 
 -- the two parts of a row or of a choice, and the one part of the others
@@ -91,12 +91,12 @@ returns-in-Seq t c = λ e s.
 pub returns-in-Or : need.returns-in-Or
 returns-in-Or t c = λ e s.
     let v = view (c .args .nodes .now) (c .args .k) (Or (c .in-Or .a) (c .in-Or .b)) s (c .in-Or .is) in
-    same-gathered (v .2) (gathered-either (c .gather-left-in-Or .ensures (v .0) (v .5)) (c .gather-right-in-Or .ensures (v .1) (v .6)))
+    same-gathered (v .2) (same-edges (c .either .ensures) (gathered-either (c .gather-left-in-Or .ensures (v .0) (v .5)) (c .gather-right-in-Or .ensures (v .1) (v .6))))
 
 pub returns-in-Star : need.returns-in-Star
 returns-in-Star t c = λ e s.
     let v = view (c .args .nodes .now) (c .args .k) (Star (c .in-Star .a)) s (c .in-Star .is) in
-    same-gathered (v .1) (gathered-star (c .gather-inner .ensures (v .0) (v .3)) (c .link-in-Star .ensures))
+    same-gathered (v .1) (same-edges (c .or-none .ensures) (gathered-star (c .gather-inner .ensures (v .0) (v .3)) (c .link-in-Star .ensures)))
 
 pub returns-in-Plus : need.returns-in-Plus
 returns-in-Plus t c = λ e s.
@@ -106,7 +106,7 @@ returns-in-Plus t c = λ e s.
 pub returns-in-Opt : need.returns-in-Opt
 returns-in-Opt t c = λ e s.
     let v = view (c .args .nodes .now) (c .args .k) (Opt (c .in-Opt .a)) s (c .in-Opt .is) in
-    same-gathered (v .1) (gathered-opt (c .gather-inner-in-Opt .ensures (v .0) (v .3)))
+    same-gathered (v .1) (same-edges (c .or-none-in-Opt .ensures) (gathered-opt (c .gather-inner-in-Opt .ensures (v .0) (v .3))))
 
 pub returns-in-Tag : need.returns-in-Tag
 returns-in-Tag t c = λ e s.

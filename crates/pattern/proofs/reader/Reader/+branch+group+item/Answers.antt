@@ -10,7 +10,7 @@ use Rattle.pattern.specs.Expressions.{seq, either}
 use Rattle.pattern.specs.Descent.{source, isOr, isOpening, unit, item, branch, items, branches, group-then, group-bad, branches-end, branches-or, branches-bad, branch-then, branch-bad, items-end, items-more, items-bad, item-bad, unit-misread, unit-tests, unit-deep, unit-group-bad, unit-group-loose, unit-tags, unit-tag-bad, unit-tag-loose, unit-none}
 use Rattle.pattern.specs.Nodes.{Did}
 use Rattle.pattern.specs.Trees.{a-seq, an-or}
-use Rattle.pattern.proofs.Steps.{ended, stopped, joined-turn, ready-past, ready-tag, test-unit, group-unit, tag-unit, repeated, at-some, at-kind, is-or, no-unit, kind-is, faulted}
+use Rattle.pattern.proofs.Steps.{ended, stopped, joined-turn, ready-past, ready-tag, tested-unit, group-unit, tag-unit, repeated, at-some, at-kind, is-or, no-unit, kind-is, faulted}
 use Rattle.pattern.proofs.reader.Reader.+branch+group+item.Needs as need
 use Rattle.pattern.proofs.reader.Reader.+branch+group+item.Needs.{item-Joined-token, item-in-Test·in-Continue-code·else-self-ge-MOST-TESTS, item-in-Open·else-depth-ge-MOST-OPEN·in-Continue-inner·else-not-close-at, item-in-OpenTag·else-depth-ge-MOST-OPEN-2·else-self-ge-MOST-TAGS·in-Continue-inner-2·else-not-close-tag-at}
 
@@ -69,13 +69,13 @@ item-returns-then-self-ge-MOST-TESTS t c =
     let is = kind-is s i (c .peek-token .ensures) (c .in-Test .is) ∙ ap Kind.Test (c .in-Continue-code .was tt) in
     faulted s i (c .peek-token .ensures) TooManyTests (item-bad (unit-tests is (omega arith)))
 
-pub item-add-requires : need.item-add-requires
-item-add-requires t c κs =
+pub item-test-unit-requires : need.item-test-unit-requires
+item-test-unit-requires t c κs =
     let s = source (c .args .tokens .now) (c .args .end) in
     let i = c .args .self .now .pos in
     let h = c .pre .0 in
     let l : i < length (s .list) = at-some s i _ (kind-is s i (c .peek-token .ensures) (c .in-Test .is)) refl in
-    omega arith
+    (omega arith, (omega arith, omega arith))
 
 pub item-returns-then-depth-ge-MOST-OPEN : need.item-returns-then-depth-ge-MOST-OPEN
 item-returns-then-depth-ge-MOST-OPEN t c =
@@ -159,11 +159,11 @@ unit-read t c =
     let e = c .peek-token .ensures in
     elim (c .match-token .came) [
       | item-in-Test·in-Continue-code·else-self-ge-MOST-TESTS w ↦
-          simp (w .self-is, w .unit-is) (test-unit (c .pre .0) (kind-is s i e (w .in-Test .is) ∙ ap Kind.Test (w .in-Continue-code .was tt)) (w .if-self-ge-MOST-TESTS .left) (w .add .ensures))
+          simp (w .self-is, w .unit-is) (tested-unit (c .pre .0) (kind-is s i e (w .in-Test .is) ∙ ap Kind.Test (w .in-Continue-code .was tt)) (w .if-self-ge-MOST-TESTS .left) (w .test-unit .ensures))
       | item-in-Open·else-depth-ge-MOST-OPEN·in-Continue-inner·else-not-close-at w ↦
           simp (w .self-is, w .unit-is) (group-unit (kind-is s i e (w .in-Open .is)) (w .if-depth-ge-MOST-OPEN .left) (w .in-Continue-inner .ensures tt) (sym (w .if-not-close-at .ensures tt)))
       | item-in-OpenTag·else-depth-ge-MOST-OPEN-2·else-self-ge-MOST-TAGS·in-Continue-inner-2·else-not-close-tag-at w ↦
-          simp (w .self-is, w .unit-is) (tag-unit (c .pre .0) (kind-is s i e (w .in-OpenTag .is)) (w .if-depth-ge-MOST-OPEN-2 .left) (w .if-self-ge-MOST-TAGS .left) (w .in-Continue-inner-2 .ensures tt) (sym (w .if-not-close-tag-at .ensures tt)) (w .add-in-OpenTag .ensures))
+          simp (w .self-is, w .unit-is) (tag-unit (c .pre .0) (kind-is s i e (w .in-OpenTag .is)) (w .if-depth-ge-MOST-OPEN-2 .left) (w .if-self-ge-MOST-TAGS .left) (w .in-Continue-inner-2 .ensures tt) (sym (w .if-not-close-tag-at .ensures tt)) (w .add .ensures))
     ]
 
 pub item-repeats-requires : need.item-repeats-requires

@@ -1,0 +1,4 @@
+mod Bounded
+mod Matcher
+mod Checks
+mod Rows

@@ -114,3 +114,68 @@ fn any_lawful_notation() -> Result<(), Fail> {
     let mut words = Shelf::new(Words::new());
     check_eq(words.file(0, b"#3;@7;*"), Ok((2, 0)))
 }
+
+// The longest stretch and the marks of a line of letters, by a pattern.
+fn reported(
+    pattern: &[u8],
+    line: &[u8],
+    marks: &mut [u8],
+) -> (Result<(usize, usize), Refusal>, Result<usize, Refusal>) {
+    let mut shelf = Shelf::new(Letters::new());
+    let _ = shelf.file(4, pattern);
+    (shelf.longest(4, line), shelf.mark(4, line, marks))
+}
+
+#[test]
+fn longest_and_marks() -> Result<(), Fail> {
+    let mut marks = [7; 12];
+    check_eq(
+        reported(b"bb*", b"abbabbbab", &mut marks),
+        (Ok((4, 7)), Ok(6)),
+    )?;
+    check(marks == [0, 1, 1, 0, 1, 1, 1, 0, 1, 7, 7, 7])?;
+    check_eq(reported(b"aba", b"ababa", &mut marks), (Ok((0, 3)), Ok(5)))?;
+    check_eq(reported(b"a*", b"bb", &mut marks), (Ok((0, 0)), Ok(0)))?;
+    check_eq(
+        reported(b"a", b"", &mut marks),
+        (Err(Refusal::NoMatch), Ok(0)),
+    )?;
+    check_eq(
+        reported(b"(a|ab)(c|bcd)(d*)", b"abcd", &mut marks),
+        (Ok((0, 4)), Ok(4)),
+    )
+}
+
+#[test]
+fn reports_turned_down() -> Result<(), Fail> {
+    let mut shelf = Shelf::new(Letters::new());
+    let mut marks = [7; 160];
+    check_eq(shelf.longest(10, &[b'a'; 161]), Err(Refusal::NoSuchPlace))?;
+    check_eq(shelf.longest(0, &[b'a'; 161]), Err(Refusal::PlaceBare))?;
+    check_eq(shelf.file(0, b"a"), Ok((1, 0)))?;
+    check_eq(shelf.longest(0, &[b'a'; 161]), Err(Refusal::LineTooLong))?;
+    check_eq(
+        shelf.mark(0, &[b'a'; 161], &mut marks[0..1]),
+        Err(Refusal::LineTooLong),
+    )?;
+    check_eq(
+        shelf.mark(0, b"aa", &mut marks[0..1]),
+        Err(Refusal::BufferTooShort),
+    )?;
+    check(marks == [7; 160])?;
+    check_eq(shelf.longest(0, &[b'a'; 160]), Ok((0, 1)))?;
+    check_eq(shelf.mark(0, &[b'a'; 160], &mut marks), Ok(160))
+}
+
+#[test]
+fn lines_of_any_symbols() -> Result<(), Fail> {
+    let mut words = Shelf::new(Words::new());
+    check_eq(words.file(0, b"#3;@7;*"), Ok((2, 0)))?;
+    check_eq(words.longest(0, &[196609, 131079, 327687]), Ok((0, 3)))?;
+    let mut nothing = Shelf::new(Nothing);
+    check_eq(nothing.file(0, b"a"), Ok((1, 0)))?;
+    check_eq(nothing.longest(0, &[true, false]), Err(Refusal::NoMatch))?;
+    let mut down = Shelf::new(Downward { asked: 0 });
+    check_eq(down.file(0, b"[+"), Ok((1, 0)))?;
+    check_eq(down.longest(0, &[91, 91, 92]), Ok((0, 2)))
+}

@@ -5,8 +5,8 @@ mod Derivations
 mod Gathers
 mod Numbering
 pub mod Sets
-mod Spelled
+pub mod Spelled
 mod Spells
 mod Steps
 mod Tables
-mod Walks
+pub mod Walks

@@ -6,6 +6,7 @@
 //     [^l-h]  all bytes but l to h
 //     b       any other byte: itself
 ghost use mathlib.Core.Path.{_≡_};
+ghost use Rattle.alphabet.specs.Signs.{BeginsNoSign};
 ghost use Rattle.alphabet.specs.LetterForms.{Letters-read-their-forms};
 ghost use Rattle.alphabet.specs.Letters.{letterMeaning, letterReading, letterTest, spanReading};
 use crate::Alphabet;
@@ -51,7 +52,9 @@ pub impl Alphabet for Letters as LettersAlphabet {
 
     ghost meaning = { λ _ test symbol. letterMeaning test symbol };
 
-    fn admits(&self, test: u32, symbol: &u8) -> bool {
+    fn admits(&self, test: u32, symbol: &u8) -> bool
+        ensures { λ r. ⌜ r ≡ letterMeaning test (now (symbol .entry)) ⌝ }
+    {
         let symbol = u32::from(*symbol);
         let within = test % 256 <= symbol && symbol <= test / 256 % 256;
         within != (test >= OTHERS)
@@ -61,7 +64,10 @@ pub impl Alphabet for Letters as LettersAlphabet {
 pub impl Notation for Letters as LettersNotation {
     ghost reading = { λ _ bytes. letterReading bytes };
 
-    fn read(&mut self, bytes: &[u8]) -> Result<(u32, usize), Cause> {
+    fn read(&mut self, bytes: &[u8]) -> Result<(u32, usize), Cause>
+        requires { ⌜ BeginsNoSign (now bytes) ⌝ }
+        ensures answer { λ r. ⌜ r ≡ letterReading (now (bytes .entry)) ⌝ }
+    {
         match bytes {
             [] => unreachable(),
             [b'.', ..] => Ok((range(0, 255), 1)),

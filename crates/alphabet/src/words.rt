@@ -6,6 +6,7 @@
 //     @e;  the words of entry e, 0 to 65535 in one to five digits
 ghost use mathlib.Core.Path.{_≡_};
 ghost use Prim.Native.Nat.{_≤_};
+ghost use Rattle.alphabet.specs.Signs.{BeginsNoSign};
 ghost use Rattle.std.specs.Vec.{made};
 ghost use Rattle.alphabet.specs.WordForms.{Words-read-their-forms};
 ghost use Rattle.alphabet.specs.Words.{numberReading, wordMeaning, wordReading};
@@ -68,7 +69,9 @@ pub impl Alphabet for Words as WordsAlphabet {
 
     ghost meaning = { λ _ test symbol. wordMeaning test symbol };
 
-    fn admits(&self, test: u32, symbol: &u32) -> bool {
+    fn admits(&self, test: u32, symbol: &u32) -> bool
+        ensures { λ r. ⌜ r ≡ wordMeaning test (now (symbol .entry)) ⌝ }
+    {
         if test < KINDS {
             *symbol % ENTRIES == test
         } else if test < ANY {
@@ -82,7 +85,10 @@ pub impl Alphabet for Words as WordsAlphabet {
 pub impl Notation for Words as WordsNotation {
     ghost reading = { λ _ bytes. wordReading bytes };
 
-    fn read(&mut self, bytes: &[u8]) -> Result<(u32, usize), Cause> {
+    fn read(&mut self, bytes: &[u8]) -> Result<(u32, usize), Cause>
+        requires { ⌜ BeginsNoSign (now bytes) ⌝ }
+        ensures answer { λ r. ⌜ r ≡ wordReading (now (bytes .entry)) ⌝ }
+    {
         match bytes {
             [] => unreachable(),
             [b'.', ..] => Ok((ANY, 1)),

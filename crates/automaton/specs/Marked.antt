@@ -16,7 +16,7 @@ Covered a rows i = (l : ℕ) × (r : ℕ) × (l ≤ i) × (i < r) × Reads a row
 abbrev pub Marked : Automaton → List ℕ → ℕ → ℕ → Type 0
 Marked a rows i m = ((m ≡ 1) × Covered a rows i) ⊎ ((m ≡ 0) × (Covered a rows i → ⊥))
 
--- a buffer has, in place of what it held before, a mark for each symbol of the line, and count is their number
+-- a buffer has, in place of what it held before, a mark for each symbol of the line, and count is how many of them are 1
 pub record Marks (a : Automaton) (rows before after : List ℕ) (count : ℕ) : Type 0 where
   pub room : length rows ≤ length before
   pub kept : length after ≡ length before

@@ -2,11 +2,9 @@
 ghost use Rattle.examples.specs.Table.{AllAsListed, examples};
 
 // Every example of the table comes out as listed there.
-pub fn examples_come_out() -> bool
+pub fn examples_come_out()
     ensures { λ _. ⌜ AllAsListed examples ⌝ }
-{
-    true
-}
+{}
 
 #[cfg(test)]
 mod notations;

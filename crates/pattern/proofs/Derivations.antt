@@ -23,7 +23,7 @@ use Rattle.pattern.specs.Tokens.{Reading, signKind, token, tested, firstToken,
 use Rattle.pattern.specs.Scanning.{Before, nothing, so-far, join, choose, Bracket, whole, plain, tagged, Frame, frame, State, want, have, Step, go, stop, unit-step, close-step, close-tag-step, end-step, step, at-end, conclude, scan, start, scanned}
 use Rattle.pattern.specs.Descent.{isEnd}
 use Rattle.pattern.specs.Patterns.{syntax, written}
-use Rattle.pattern.specs.Grammar.{Part, group, branch, unit, Seen, one-test-more, one-tag-more, Derives, a-test, a-group, a-tag, none-or-more, one-or-more, none-or-one, first-unit, next-unit, first-branch, next-branch, Derived, Derivable}
+use Rattle.pattern.specs.Grammar.{Part, group, branch, unit, Seen, one-test-more, one-tag-more, Derives, a-test, a-group, a-tag, none-or-more, one-or-more, none-or-one, first-unit, next-unit, first-branch, next-branch, Derived, Derivable, DerivesOnly}
 use Rattle.pattern.proofs.Steps.{absurd-of}
 use Rattle.pattern.proofs.Agree.{is-below}
 
@@ -315,7 +315,14 @@ scans-derived reading end bytes x h =
     let all = tokens reading bytes in
     scan-derives all end all (real reading 0 0 bytes) start unseen (0, unseen, all, outermost, fresh 0 unseen all) x h
 
+unwrapped : {x y : Syntax} → _≡_ {A = Result Syntax Fault} (Ok x) (Ok y) → x ≡ y
+unwrapped h = cc
+
 -- what was read, accepted exactly as the grammar derives it
-pub exactly : (reading : Reading) (bytes : List ℕ) → length bytes ≤ 120 → (r : Result Pattern Fault) → written r ≡ scanned (length bytes) (tokens reading bytes) → Cases r (λ p. Derivable reading bytes (syntax p)) (λ _. (x : Syntax) → Derivable reading bytes x → ⊥)
-exactly reading bytes short (Ok p) e = record { not-too-long = short; derived = scans-derived reading (length bytes) bytes (syntax p) (sym e) }
+pub exactly : (reading : Reading) (bytes : List ℕ) → length bytes ≤ 120 → (r : Result Pattern Fault) → written r ≡ scanned (length bytes) (tokens reading bytes) → Cases r (λ p. DerivesOnly reading bytes (syntax p)) (λ _. (x : Syntax) → Derivable reading bytes x → ⊥)
+exactly reading bytes short (Ok p) e =
+    record {
+      derivable = record { not-too-long = short; derived = scans-derived reading (length bytes) bytes (syntax p) (sym e) };
+      only = λ y d. unwrapped (sym (derived-scans (length bytes) (tokens reading bytes) y (d .derived)) ∙ sym e);
+    }
 exactly reading bytes short (Err f) e = λ x d. never (e ∙ derived-scans (length bytes) (tokens reading bytes) x (d .derived))

@@ -57,3 +57,8 @@ Derived ts x = Derives group 0 (record { codes = []; tags = 0 }) ts (x .tree) (r
 pub record Derivable (reading : Reading) (bytes : List ℕ) (x : Syntax) : Type 0 where
   pub not-too-long : length bytes ≤ 120
   pub derived : Derived (tokens reading bytes) x
+
+-- the grammar derives the pattern x from the bytes, and no other
+pub record DerivesOnly (reading : Reading) (bytes : List ℕ) (x : Syntax) : Type 0 where
+  pub derivable : Derivable reading bytes x
+  pub only : (y : Syntax) → Derivable reading bytes y → y ≡ x

@@ -2,8 +2,8 @@
 mod cutter;
 pub mod fault;
 pub mod kept;
-pub mod node;
+mod node;
 mod positions;
 mod reader;
 mod reading;
-pub mod token;
+mod token;

@@ -1,10 +1,10 @@
 // From a pattern's bytes to the pattern as it is kept.
 ghost use mathlib.Core.Path.{_≡_};
-ghost use Prim.Native.Nat.{_≤_};
+ghost use Prim.Native.Nat.{_<_, _≤_};
 ghost use lib.ListN.{length};
 ghost use Rattle.std.specs.Results.{Cases};
 ghost use Rattle.pattern.specs.Expressions.{Syntax};
-ghost use Rattle.pattern.specs.Grammar.{Derivable};
+ghost use Rattle.pattern.specs.Grammar.{Derivable, DerivesOnly};
 ghost use Rattle.pattern.specs.Patterns.{syntax, written};
 ghost use Rattle.pattern.specs.Spelling.{HasWords};
 ghost use Rattle.pattern.specs.Scanning.{syntaxOf};
@@ -23,7 +23,8 @@ impl Pattern {
     // Reads a pattern in a notation, or says what is the first thing wrong with it.
     pub fn read<N: Notation>(notation: &mut N, bytes: &[u8]) -> Result<Pattern, Fault>
         ensures pattern_or_first_fault { λ r. ⌜ written r ≡ syntaxOf (N·Notation .reading (now (notation .entry))) (now (bytes .entry)) ⌝ }
-        ensures exactly_what_the_grammar_derives { λ r. ⌜ Cases r (λ p. Derivable (N·Notation .reading (now (notation .entry))) (now (bytes .entry)) (syntax p)) (λ _. (x : Syntax) → Derivable (N·Notation .reading (now (notation .entry))) (now (bytes .entry)) x → ⊥) ⌝ }
+        ensures exactly_what_the_grammar_derives { λ r. ⌜ Cases r (λ p. DerivesOnly (N·Notation .reading (now (notation .entry))) (now (bytes .entry)) (syntax p)) (λ _. (x : Syntax) → Derivable (N·Notation .reading (now (notation .entry))) (now (bytes .entry)) x → ⊥) ⌝ }
+        ensures asks_nothing_if_too_long { λ _. ⌜ (120 < length (now (bytes .entry)) → now (notation .exit) ≡ now (notation .entry)) ⌝ }
         ensures keeps_meaning { λ _. ⌜ N·Alphabet .meaning (now (notation .exit)) ≡ N·Alphabet .meaning (now (notation .entry)) ⌝ }
         ensures keeps_reading { λ _. ⌜ SameReading (N·Notation .reading (now (notation .exit))) (N·Notation .reading (now (notation .entry))) ⌝ }
     {

@@ -2,10 +2,10 @@
 use mathlib.Core.Path.{_≡_}
 use mathlib.Core.Bool.{Bool, cond, _&&_}
 use mathlib.Core.List.{List, [], _∷_, _++_}
-use Prim.Native.Nat.{ℕ, _+_, _/_, _%_, _≤_, _<_}
+use Prim.Native.Nat.{ℕ, _+_, _/_, _%_, _≤_}
 use lib.Chars.{codes}
 use lib.Dec.{leb, ltb}
-use lib.ListN.{length, take, drop, getD, replicate}
+use lib.ListN.{length, take, drop, replicate}
 use Rattle.std.specs.declared.option.Option.{Option}
 use Rattle.std.specs.declared.option.Option.the-variants.{Some, None}
 
@@ -27,7 +27,7 @@ shown (b ∷ bs) = shownByte b ++ shown bs
 abbrev pub patternLine : List ℕ → List ℕ
 patternLine bs = codes "    " ++ (shown (take 120 bs) ++ cond (ltb 120 (length bs)) (codes "...\n") (codes "\n"))
 
--- a caret below the first column of the byte at the offset
+-- a caret below the first column of the byte at the offset, or below the end
 abbrev pub caretLine : List ℕ → Option ℕ → List ℕ
 caretLine bs None = []
 caretLine bs (Some at) = codes "    " ++ (replicate (length (shown (take at (take 120 bs)))) 32 ++ codes "^\n")
@@ -36,9 +36,10 @@ caretLine bs (Some at) = codes "    " ++ (replicate (length (shown (take at (tak
 abbrev pub column : List ℕ → ℕ → ℕ
 column bs at = 4 + length (shown (take at bs))
 
--- Of a pattern that is shown whole, the caret stands in the column where the byte at its offset begins.
+-- Of a pattern that is shown whole, the caret stands below the column where the byte at its offset begins, or where
+-- the line ends.
 abbrev pub CaretStandsBelow : Type 0
 CaretStandsBelow =
-    (bs : List ℕ) (at : ℕ) → at < length bs → length bs ≤ 120
-    → (drop (column bs at) (patternLine bs) ≡ shownByte (getD bs at 0) ++ (shown (drop (at + 1) bs) ++ codes "\n"))
+    (bs : List ℕ) (at : ℕ) → at ≤ length bs → length bs ≤ 120
+    → (drop (column bs at) (patternLine bs) ≡ shown (drop at bs) ++ codes "\n")
     × (caretLine bs (Some at) ≡ replicate (column bs at) 32 ++ codes "^\n")

@@ -2,7 +2,7 @@
 use mathlib.Core.Path.{_≡_}
 use mathlib.Core.Bool.{cond}
 use mathlib.Core.List.{List}
-use Prim.Native.Nat.{ℕ, _<_}
+use Prim.Native.Nat.{ℕ, _<_, _≤_}
 use lib.Dec.{ltb}
 use lib.ListN.{length, set}
 use Rattle.std.specs.declared.option.Option.the-variants.{Some, None}
@@ -47,6 +47,12 @@ pub record Fileable (reading : Reading) (places : List Place) (place : ℕ) (byt
   pub one-of-ten : place < 10
   pub bare : heldAt places place ≡ None
   pub lawful : (x : Syntax) × Derivable reading bytes x
+
+-- the pattern is read: the place is one of the ten, nothing stands there, and the bytes are not too many
+pub record Readable (places : List Place) (place : ℕ) (bytes : List ℕ) : Type 0 where
+  pub one-of-ten : place < 10
+  pub bare : heldAt places place ≡ None
+  pub not-too-long : length bytes ≤ 120
 
 abbrev pub withdrawing : List Place → ℕ → Result (Unit {0}) Refusal
 withdrawing places place =

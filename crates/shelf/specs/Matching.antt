@@ -55,7 +55,7 @@ pub record Covered {S : Type 0} (admits : ℕ → S → Bool) (e : Expr) (line :
 abbrev pub MarkedRight : {S : Type 0} → (ℕ → S → Bool) → Expr → List S → ℕ → ℕ → Type 0
 MarkedRight admits e line i mark = ((mark ≡ 1) × Covered admits e line i) ⊎ ((mark ≡ 0) × (Covered admits e line i → ⊥))
 
--- the buffer has a mark for each symbol at its front, the bytes behind are as they were, and the count is that of the marks
+-- the buffer has a mark for each symbol at its front, the bytes behind are as they were, and the count is how many marks are 1
 pub record Marks {S : Type 0} (admits : ℕ → S → Bool) (e : Expr) (line : List S) (before after : List ℕ) (count : ℕ) : Type 0 where
   pub kept : length after ≡ length before
   pub marks : (i : ℕ) → i < length line → MarkedRight admits e line i (getD after i 0)

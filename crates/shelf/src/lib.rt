@@ -7,7 +7,7 @@ ghost use Rattle.std.specs.declared.option.Option.the-variants.{None};
 ghost use Rattle.pattern.specs.Tokens.{SameReading};
 ghost use Rattle.shelf.specs.declared.place.Place.the-variants.{Bare};
 ghost use Rattle.shelf.specs.Places.{heldAt};
-ghost use Rattle.shelf.specs.Filing.{filing, counts, FiledAfter, Fileable, withdrawing};
+ghost use Rattle.shelf.specs.Filing.{filing, counts, FiledAfter, Fileable, Readable, withdrawing};
 use alphabet::Alphabet;
 use alphabet::Notation;
 use pattern::kept::Pattern;
@@ -46,6 +46,7 @@ impl<N: Notation> Shelf<N> {
         ensures counts_or_refusal { λ r. ⌜ r ≡ counts (filing (N·Notation .reading (now (self .entry) .notation)) (now (self .entry) .places) place (now (bytes .entry))) ⌝ }
         ensures pattern_stands_there { λ _. ⌜ FiledAfter (filing (N·Notation .reading (now (self .entry) .notation)) (now (self .entry) .places) place (now (bytes .entry))) place (now (self .entry) .places) (now (self .exit) .places) ⌝ }
         ensures exactly_where_it_may { λ r. ⌜ Cases r (λ _. Fileable (N·Notation .reading (now (self .entry) .notation)) (now (self .entry) .places) place (now (bytes .entry))) (λ _. Fileable (N·Notation .reading (now (self .entry) .notation)) (now (self .entry) .places) place (now (bytes .entry)) → ⊥) ⌝ }
+        ensures asks_only_where_it_may_file { λ _. ⌜ ((Readable (now (self .entry) .places) place (now (bytes .entry)) → ⊥) → now (self .exit) .notation ≡ now (self .entry) .notation) ⌝ }
         ensures keeps_meaning { λ _. ⌜ N·Alphabet .meaning (now (self .exit) .notation) ≡ N·Alphabet .meaning (now (self .entry) .notation) ⌝ }
         ensures keeps_reading { λ _. ⌜ SameReading (N·Notation .reading (now (self .exit) .notation)) (N·Notation .reading (now (self .entry) .notation)) ⌝ }
     {
@@ -63,7 +64,7 @@ impl<N: Notation> Shelf<N> {
     // Takes the pattern at a place away.
     pub fn withdraw(&mut self, place: usize) -> Result<(), Refusal>
         ensures done_or_refusal { λ r. ⌜ r ≡ withdrawing (now (self .entry) .places) place ⌝ }
-        ensures place_is_bare { λ r. ⌜ now (self .exit) .places ≡ cond (isOk r) (set (now (self .entry) .places) place Bare) (now (self .entry) .places) ⌝ }
+        ensures only_that_place_is_bared { λ r. ⌜ now (self .exit) .places ≡ cond (isOk r) (set (now (self .entry) .places) place Bare) (now (self .entry) .places) ⌝ }
         ensures nothing_stands_there { λ _. ⌜ heldAt (now (self .exit) .places) place ≡ None ⌝ }
         ensures keeps_notation { λ _. ⌜ now (self .exit) .notation ≡ now (self .entry) .notation ⌝ }
     {

@@ -42,7 +42,8 @@ returns g c =
     record {
       counts-or-refusal = ap (λ n. Ok (n, c .tags .result)) (c .tests .ensures) ∙ ap (λ n. Ok (length (x .codes), n)) (c .tags .ensures) ∙ ap counts is;
       pattern-stands-there = let P : Result Syntax Refusal → Type 0 = λ r. FiledAfter r (c .args .place) places (set places (c .args .place) (Filed (c .in-Continue-pattern .pattern))) in subst P is (c .in-Continue-pattern .pattern, refl, refl);
-      exactly-where-it-may = record { one-of-ten = few; bare = bare; lawful = (x, e .exactly-what-the-grammar-derives) };
+      exactly-where-it-may = record { one-of-ten = few; bare = bare; lawful = (x, e .exactly-what-the-grammar-derives .derivable) };
+      asks-only-where-it-may-file = λ no. absurd (no (record { one-of-ten = few; bare = bare; not-too-long = e .exactly-what-the-grammar-derives .derivable .not-too-long }));
       keeps-meaning = e .keeps-meaning;
       keeps-reading = e .keeps-reading;
     }

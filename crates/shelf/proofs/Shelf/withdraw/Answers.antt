@@ -11,7 +11,7 @@ returns-in-None g c =
     let past : length (c .args .self .now .places) ≤ c .args .place = search needs in
     record {
       done-or-refusal = search needs;
-      place-is-bare = refl;
+      only-that-place-is-bared = refl;
       nothing-stands-there = ap held (List·getD-eq-default (c .args .self .now .places) Bare past);
       keeps-notation = refl;
     }

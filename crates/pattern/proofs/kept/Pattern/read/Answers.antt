@@ -24,6 +24,7 @@ returns g c =
     record {
       pattern-or-first-fault = came ∙ ap (λ b. cond b (scanned (length bytes) (tokens reading bytes)) (Err TooLong)) (le-true _ _ short);
       exactly-what-the-grammar-derives = exactly reading bytes short (c .parse .result) came;
+      asks-nothing-if-too-long = λ l. absurd (omega arith);
       keeps-meaning = c .cut-tokens .ensures .keeps-meaning;
       keeps-reading = c .cut-tokens .ensures .keeps-reading;
     }

@@ -8,13 +8,13 @@
 ghost use mathlib.Core.Path.{_≡_};
 ghost use Rattle.alphabet.specs.Signs.{BeginsNoSign};
 ghost use Rattle.alphabet.specs.LetterForms.{Letters-read-their-forms};
-ghost use Rattle.alphabet.specs.Letters.{letterMeaning, letterReading, letterTest, spanReading};
+ghost use Rattle.alphabet.specs.Letters.{letterMeaning, letterReading, othersTest, rangeTest, spanReading};
 use crate::Alphabet;
 use crate::Cause;
 use crate::Notation;
 
-// A range's test is its lowest byte and 256 times its highest. This is added for all bytes but the range.
-const OTHERS: u32 = 65536;
+// A test is a run of bytes, in which 0 comes after 255. Its number is its first byte, and 256 times how many bytes it has.
+const BYTES: u32 = 256;
 
 #[derive(Clone, Copy)]
 pub struct Letters;
@@ -30,9 +30,16 @@ impl Letters {
 
 // The test that admits the bytes `low` to `high`.
 fn range(low: u8, high: u8) -> u32
-    ensures { λ r. ⌜ r ≡ letterTest low high ⌝ }
+    ensures { λ r. ⌜ r ≡ rangeTest low high ⌝ }
 {
-    u32::from(low) + 256 * u32::from(high)
+    u32::from(low) + BYTES * (u32::from(high.wrapping_sub(low)) + 1)
+}
+
+// The test that admits all bytes but `low` to `high`.
+fn others(low: u8, high: u8) -> u32
+    ensures { λ r. ⌜ r ≡ othersTest low high ⌝ }
+{
+    u32::from(high.wrapping_add(1)) + BYTES * (255 - u32::from(high.wrapping_sub(low)))
 }
 
 // The limits of a range, `l-h]`, that stands after a `[` or a `[^`.
@@ -55,9 +62,8 @@ pub impl Alphabet for Letters as LettersAlphabet {
     fn admits(&self, test: u32, symbol: &u8) -> bool
         ensures { λ r. ⌜ r ≡ letterMeaning test (now (symbol .entry)) ⌝ }
     {
-        let symbol = u32::from(*symbol);
-        let within = test % 256 <= symbol && symbol <= test / 256 % 256;
-        within != (test >= OTHERS)
+        let first = (test % BYTES) as u8;
+        u32::from(symbol.wrapping_sub(first)) < test / BYTES
     }
 }
 
@@ -75,7 +81,7 @@ pub impl Notation for Letters as LettersNotation {
             [b'\\'] => Err(Cause::CutShort),
             [b'[', b'^', rest @ ..] => {
                 let (low, high) = limits(rest)?;
-                Ok((range(low, high) + OTHERS, 6))
+                Ok((others(low, high), 6))
             }
             [b'[', rest @ ..] => {
                 let (low, high) = limits(rest)?;

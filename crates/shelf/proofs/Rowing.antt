@@ -1,58 +1,76 @@
 -- Sets of the tests that admit a symbol.
-use Prim.Native.Nat.{ℕ, zero, suc, _+_, _-_, _*_, _^_, _%_, _<_, _≤_}
+use Prim.Native.Nat.{ℕ, zero, suc, _+_, _-_, _*_, _/_, _^_, _%_, _<_, _≤_}
 use mathlib.Core.Path.{_≡_, refl, sym, _∙_, ap, subst}
-use mathlib.Core.Bool.{Bool, true, false, _&&_, _||_}
+use mathlib.Core.Bool.{Bool, true, false, _&&_}
 use mathlib.Core.List.{List, [], _∷_, _++_}
-use mathlib.Core.Logic.{_⊎_, inl, inr}
+use mathlib.Core.Logic.{inl, inr}
 use native.Mathlib.Omega.{arith}
 use lib.Bits.{bitOr}
 use lib.Dec.{ltb, eqb}
-use lib.ListN.{length, take}
-use borrow.Author.Tests.{eqb-true, eq-true, ltb-true, lt-true}
-use Rattle.std.proofs.shelf.Tests.{cases-eq}
+use lib.ListN.{length}
+use Rattle.std.proofs.shelf.Bits.{pow-pos, pow-add, shr-shr, div-mul-add, shl-whole, or-shifted}
+use Rattle.std.proofs.shelf.Tests.{lt-ltb, le-ltb, eq-eqb, ne-eqb, cases-lt}
+use mir.Val.{boolByte}
 use Rattle.pattern.specs.Positions.{bit}
-use Rattle.pattern.proofs.BitSets.{bit-or, bit-one, bit-none, same-test}
-use Rattle.pattern.proofs.Sets.{or-true, and-true, or-left, or-right, and-both}
+use Rattle.pattern.proofs.BitSets.{bit-none}
 use Rattle.shelf.specs.RowTables.{RowOf, RowsOf}
 
-below-none : (k : ℕ) → ltb k 0 ≡ true → ⊥
-below-none k h = let l = ltb-true k 0 h in omega arith
+-- no test
+row-none : (p : ℕ → Bool) → RowOf p 0 0
+row-none p k = bit-none k ∙ sym (ap (λ b. b && p k) (le-ltb k 0 (omega arith)))
 
-pub row-none : (p : ℕ → Bool) → RowOf p 0 0
-row-none p k = bit-none k ∙ same-test _ _ (λ e. let z : _≡_ {A = ℕ} 0 1 = cc in absurd (omega arith)) (λ e. absurd (below-none k (and-true (ltb k 0) (p k) e .0)))
+byte-small : (b : Bool) → boolByte b < 2
+byte-small true = omega arith
+byte-small false = omega arith
 
--- one test more, that admits the symbol
-pub row-in : (p : ℕ → Bool) (n row : ℕ) → RowOf p n row → p n ≡ true → RowOf p (n + 1) (bitOr row (2 ^ n))
-row-in p n row r t k =
-    bit-or row (2 ^ n) k
-    ∙ ap (λ b. b || bit (2 ^ n) k) (r k)
-    ∙ ap (λ b. (ltb k n && p k) || b) (bit-one n k)
-    ∙ same-test _ _
-    (λ e. elim (or-true (ltb k n && p k) (eqb n k) e) [
-      | inl a ↦ (let b = and-true (ltb k n) (p k) a in let l = ltb-true k n (b .0) in and-both (ltb k (n + 1)) (p k) (sym (lt-true k (n + 1) (omega arith))) (b .1))
-      | inr s ↦ (let is = eqb-true n k s in and-both (ltb k (n + 1)) (p k) (sym (lt-true k (n + 1) (omega arith))) (subst (λ j. p j ≡ true) is t))
-    ])
-    (λ e.
-    let b = and-true (ltb k (n + 1)) (p k) e in
-    let l = ltb-true k (n + 1) (b .0) in
-    elim (cases-eq n k) [
-      | inl s ↦ or-right (ltb k n && p k) (eqb n k) (sym (eq-true n k s))
-      | inr ne ↦ or-left (ltb k n && p k) (eqb n k) (and-both (ltb k n) (p k) (sym (lt-true k n (omega arith))) (b .1))
-    ])
+byte-shown : (row : ℕ) (b : Bool) → bit (row * 2 + boolByte b) 0 ≡ b
+byte-shown row true = eq-eqb _ _ (omega arith)
+byte-shown row false = ne-eqb _ _ (omega arith)
 
--- one test more, that does not
-pub row-out : (p : ℕ → Bool) (n row : ℕ) → RowOf p n row → p n ≡ false → RowOf p (n + 1) row
-row-out p n row r f k =
-    r k
-    ∙ same-test _ _
-    (λ e. let b = and-true (ltb k n) (p k) e in let l = ltb-true k n (b .0) in and-both (ltb k (n + 1)) (p k) (sym (lt-true k (n + 1) (omega arith))) (b .1))
-    (λ e.
-    let b = and-true (ltb k (n + 1)) (p k) e in
-    let l = ltb-true k (n + 1) (b .0) in
-    elim (cases-eq n k) [
-      | inl s ↦ (let no : true ≡ false = sym (b .1) ∙ ap p (sym s) ∙ f in let z : _≡_ {A = ℕ} 0 1 = cc in absurd (omega arith))
-      | inr ne ↦ and-both (ltb k n) (p k) (sym (lt-true k n (omega arith))) (b .1)
-    ])
+one-more : (k n : ℕ) → ltb k n ≡ ltb (suc k) (n + 1)
+one-more k n = elim (cases-lt k n) [
+  | inl below ↦ lt-ltb k n below ∙ sym (lt-ltb (suc k) (n + 1) (omega arith))
+  | inr above ↦ le-ltb k n above ∙ sym (le-ltb (suc k) (n + 1) (omega arith))
+]
+
+-- one test before the others
+row-before : (p : ℕ → Bool) (n row : ℕ) → RowOf (λ k. p (k + 1)) n row → RowOf p (n + 1) (row * 2 + boolByte (p 0))
+row-before p n row r zero =
+    byte-shown row (p 0) ∙ sym (ap (λ b. b && p 0) (lt-ltb 0 (n + 1) (omega arith)))
+row-before p n row r (suc k) =
+    let half : (row * 2 + boolByte (p 0)) / 2 ^ 1 ≡ row = div-mul-add row 2 (boolByte (p 0)) (byte-small (p 0)) in
+    let on : (row * 2 + boolByte (p 0)) / 2 ^ (1 + k) ≡ row / 2 ^ k = sym (shr-shr (row * 2 + boolByte (p 0)) 1 k) ∙ ap (λ x. x / 2 ^ k) half in
+    let next : 1 + k ≡ suc k = omega arith in
+    ap (λ j. bit (row * 2 + boolByte (p 0)) j) (sym next)
+    ∙ ap (λ x. eqb (x % 2) 1) on
+    ∙ r k
+    ∙ ap (λ b. b && p (k + 1)) (one-more k n)
+    ∙ ap (λ j. ltb (suc k) (n + 1) && p j) (omega arith)
+
+-- the row of the tests from k on, of n in all
+abbrev pub RowFrom : (ℕ → Bool) → ℕ → ℕ → ℕ → Type 0
+RowFrom p n k row = (k ≤ n) × (row < 2 ^ (n - k)) × RowOf (λ j. p (j + k)) (n - k) row
+
+pub row-of-none : (p : ℕ → Bool) (n : ℕ) → RowFrom p n n 0
+row-of-none p n =
+    let z : n - n ≡ 0 = omega arith in
+    (omega arith, pow-pos (n - n), subst (λ m. RowOf (λ j. p (j + n)) m 0) (sym z) (row-none (λ j. p (j + n))))
+
+-- one test further down
+pub row-further : (p : ℕ → Bool) (n k row : ℕ) (b : Bool) → n ≤ 64 → 0 < k → b ≡ p (k - 1) → RowFrom p n k row → RowFrom p n (k - 1) (bitOr ((row * 2) % 2 ^ 64) (boolByte b))
+row-further p n k row b few up is (h, small, r) =
+    let m = n - k in
+    let q : ℕ → Bool = λ j. p (j + (k - 1)) in
+    let one : n - (k - 1) ≡ m + 1 = omega arith in
+    let sum : bitOr ((row * 2) % 2 ^ 64) (boolByte b) ≡ row * 2 + boolByte b = ap (λ x. bitOr x (boolByte b)) (shl-whole row m 1 64 small (omega arith)) ∙ or-shifted row 1 (boolByte b) (byte-small b) in
+    let power : 2 ^ (n - (k - 1)) ≡ 2 ^ m * 2 ^ 1 = ap (λ x. 2 ^ x) one ∙ pow-add 2 m 1 in
+    let rest : RowOf (λ j. q (j + 1)) m row = λ j. r j ∙ ap (λ i. ltb j m && p i) (omega arith) in
+    let same : row * 2 + boolByte (q 0) ≡ bitOr ((row * 2) % 2 ^ 64) (boolByte b) = ap (λ x. row * 2 + boolByte x) (ap p (omega arith) ∙ sym is) ∙ sym sum in
+    (omega arith, omega (arith, sum, power, small, byte-small b), subst (λ x. RowOf q (n - (k - 1)) x) same (subst (λ i. RowOf q i (row * 2 + boolByte (q 0))) (sym one) (row-before q m row rest)))
+
+-- all tests
+pub row-of-all : (p : ℕ → Bool) (n k row : ℕ) → k ≤ 0 → RowFrom p n k row → RowOf p n row
+row-of-all p n k row low (h, small, r) j = r j ∙ ap (λ m. ltb j m && p (j + k)) (omega arith) ∙ ap (λ i. ltb j n && p i) (omega arith)
 
 -- one symbol more
 pub rows-more : {S : Type 0} (p : ℕ → S → Bool) (n : ℕ) (line : List S) (rows : List ℕ) (s : S) (row : ℕ) → RowsOf p n line rows → RowOf (λ k. p k s) n row → RowsOf p n (line ++ (s ∷ [])) (rows ++ (row ∷ []))

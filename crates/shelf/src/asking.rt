@@ -13,10 +13,8 @@ fn row<A: Alphabet>(alphabet: &A, codes: &[u32], symbol: &A::Symbol) -> u64
     ensures { λ r. ⌜ RowOf (λ k. A·Alphabet .meaning (now (alphabet .entry)) (getD (now (codes .entry)) k 0) (now (symbol .entry))) (length (now (codes .entry))) r ⌝ }
 {
     let mut admitted = 0;
-    for k in 0..codes.len() {
-        if alphabet.admits(codes[k], symbol) {
-            admitted |= 1 << k;
-        }
+    for k in (0..codes.len()).rev() {
+        admitted = admitted << 1 | u64::from(alphabet.admits(codes[k], symbol));
     }
     admitted
 }

@@ -22,4 +22,4 @@ pub returns-in-Continue-low : need.returns-in-Continue-low
 returns-in-Continue-low c =
     let h = c .in-Continue-low .ensures tt in
     let e = after-others (c .args .bytes .now) (search needs) (search needs) (search needs) in
-    record { answer = rw (c .range-in-91 .ensures, e, ← h) refl }
+    record { answer = rw (c .others .ensures, e, ← h) refl }

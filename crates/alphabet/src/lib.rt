@@ -1,4 +1,6 @@
 // Alphabets and notations, and the two that come with the shelf.
+#![tactic(auto)]
+
 ghost use Rattle.std.specs.Prelude.{◌≡◌, ℕ, Bool, List, Result};
 ghost use Rattle.alphabet.specs.declared.Cause.{Cause};
 ghost use Rattle.alphabet.specs.Signs.{is_sign, BeginsNoSign};

@@ -1,4 +1,6 @@
 //! Asks each test of a pattern of each symbol of a line, once.
+#![tactic(auto)]
+
 ghost use Rattle.std.specs.Prelude.{◌<◌, ◌≤◌, min, length, MatchOption, slice_index};
 ghost use Rattle.automaton.specs.RowList.{rows_of};
 ghost use Rattle.asking.specs.RowTables.{RowOf, RowsOf};

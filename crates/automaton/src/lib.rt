@@ -3,6 +3,7 @@
 //! An automaton has up to 64 positions, each with a test that a symbol passes or not. It reads a word where a walk over its positions
 //! has, one by one, positions whose tests the word's symbols pass. Of a line it is told only that, as `Rows`: for each symbol the set
 //! of the positions that admit it.
+#![tactic(auto)]
 
 pub mod machine;
 pub mod rows;

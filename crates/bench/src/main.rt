@@ -1,5 +1,7 @@
 // The shelf's reports on fixed cases. With no argument it prints their answers, and with a number the nanoseconds that each
 // report takes, in the best of some rounds of so many runs.
+#![tactic(auto)]
+
 use alphabet::letters::Letters;
 use anyhow::anyhow;
 use shelf::Shelf;

@@ -1,4 +1,6 @@
 //! Cue records: what playout is told of a line, its marks and parts, in a few bytes.
+#![tactic(auto)]
+
 pub mod cursor;
 mod reading;
 pub mod refusal;

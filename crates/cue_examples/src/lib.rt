@@ -1,3 +1,5 @@
 // Cue records, good and damaged, as tests.
+#![tactic(auto)]
+
 #[cfg(test)]
 mod tests;

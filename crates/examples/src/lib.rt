@@ -1,4 +1,6 @@
 // Worked examples: a table of them stands as a theorem about the definitions, and the others run as tests.
+#![tactic(auto)]
+
 ghost use Rattle.examples.specs.Table.{AllAsListed, examples};
 
 // Every example of the table comes out as listed there.

@@ -1,4 +1,6 @@
 // Patterns: their bytes are cut into tokens, and the tokens are read as an expression.
+#![tactic(auto)]
+
 mod cutter;
 pub mod fault;
 pub mod kept;

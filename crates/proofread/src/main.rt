@@ -1,4 +1,6 @@
 // Proof-reads a list of patterns, one a line: a verdict on each, then a report.
+#![tactic(auto)]
+
 use proofreading::proofreader::Proofreader;
 use std::io;
 use std::io::{BufRead, BufReader, BufWriter, Write};

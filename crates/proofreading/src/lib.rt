@@ -1,4 +1,6 @@
 // What a proof-reader of patterns prints: a verdict on each pattern, and a report at the end.
+#![tactic(auto)]
+
 pub mod proofreader;
 pub mod report;
 mod showing;

@@ -3,6 +3,8 @@
 //! A ranking begins with the measure `start`, steps it once for each symbol of a trail, from the first to the last, by the set of the
 //! tags that the symbol belongs to, and compares the measures that come out. Two rankings ship, `Extent` and `TagOrder`; others may
 //! be written.
+#![tactic(auto)]
+
 ghost use Rattle.std.specs.Prelude.{◌≡◌, ℕ};
 ghost use Rattle.std.specs.declared.cmp.Ordering.{Ordering as Order};
 ghost use Rattle.ranking.specs.Laws.{Near, Lawful};

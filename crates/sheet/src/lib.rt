@@ -1,4 +1,6 @@
 //! The parts of a line that fall to the tags of a pattern.
+#![tactic(auto)]
+
 ghost use Rattle.std.specs.Prelude.{◌≡◌, ℕ, length, replicate, if◌then◌else◌, None, ◌≢◌};
 ghost use Rattle.sheet.specs.Entries.{is_tag, entry, with_entry};
 

@@ -1,4 +1,6 @@
 // A shelf of ten places for patterns, over any notation.
+#![tactic(auto)]
+
 ghost use Rattle.std.specs.Prelude.{◌≡◌, replicate, is_ok, if◌then◌else◌, None, MatchResult, slice_set};
 ghost use Rattle.pattern.specs.Tokens.{SameReading};
 ghost use Rattle.shelf.specs.declared.place.Place.TheVariants.{Bare};

@@ -2,6 +2,8 @@
 //!
 //! A trail of a stretch is a walk of a position automaton that has one position for each symbol, whose test admits the symbol. Of all
 //! trails the best is the one that ranks highest; of those that rank equal, the first in the tie order.
+#![tactic(auto)]
+
 ghost use Rattle.std.specs.Prelude.{length, slice_index};
 ghost use Rattle.splitting.specs.Trails.{BestTrail};
 

@@ -1,4 +1,6 @@
 // Text in a fixed room: what is written, and the front of a line that is read.
+#![tactic(auto)]
+
 pub mod buffer;
 pub mod line;
 #[cfg(test)]

@@ -19,17 +19,17 @@ loop-i-preserved c =
 pub returns-then-l-r : goal.returns-then-l-r
 returns-then-l-r c =
     let b = c.loop-i.invariant.1 in
-    subst (λ rows. Longest c.args.self.now rows (c.loop-i.l, c.loop-i.r)) c.as-slice-line.ensures.rows
+    subst (λ rows. Longest c.args.self.now rows (c.loop-i.l, c.loop-i.r)) c.as_slice-line.ensures.rows
     (reads _ _ _ _ (b.reads c.if-l-r.true), λ m s w. longer _ _ _ _ _ b c.loop-i-test.false c.if-l-r.true m s (ends _ _ _ _ w))
 
 pub returns-then-self : goal.returns-then-self
 returns-then-self c =
     let b = c.loop-i.invariant.1 in
-    subst (λ rows. Longest c.args.self.now rows (0, 0)) c.as-slice-line.ensures.rows
+    subst (λ rows. Longest c.args.self.now rows (0, 0)) c.as_slice-line.ensures.rows
     (reads _ _ _ _ (blank _ _ c.if-self.true), λ m s w. shorter _ _ _ _ _ b c.loop-i-test.false c.if-l-r.false m s (ends _ _ _ _ w))
 
 pub returns-else-self : goal.returns-else-self
 returns-else-self c =
     let b = c.loop-i.invariant.1 in
-    subst (Silent c.args.self.now) c.as-slice-line.ensures.rows
+    subst (Silent c.args.self.now) c.as_slice-line.ensures.rows
     (λ m s w. silent _ _ _ _ _ b c.loop-i-test.false c.if-l-r.false c.if-self.false m s (ends _ _ _ _ w))

@@ -35,29 +35,29 @@ begun : (a : Automaton) (line rows least before : List ℕ) → line ≡ rows �
 begun a line rows least before e h = subst (λ xs. Marking a xs least before before (length line) 0 (length line)) e (marking_none a line least before h)
 
 pub loop-i-init : goal.loop-i-init
-loop-i-init c = begun _ _ _ _ _ c.as-slice-line.ensures.rows c.if-buffer-line.false
+loop-i-init c = begun _ _ _ _ _ c.as_slice-line.ensures.rows c.if-buffer-line.false
 
 pub loop-i-preserved-then-low-i : goal.loop-i-preserved-then-low-i
 loop-i-preserved-then-low-i c =
-    let e = c.as-slice-line.ensures.rows in
+    let e = c.as_slice-line.ensures.rows in
     let n = ap length e in
     one _ _ _ _ _ _ _ _ _ c.loop-i.invariant c.loop-i-test.true (omega arith) (starts _ _ _ _ e c.leasts-least.ensures) c.min-low.ensures c.if-low-i.true
 
 pub loop-i-preserved : goal.loop-i-preserved
 loop-i-preserved c =
-    let e = c.as-slice-line.ensures.rows in
+    let e = c.as_slice-line.ensures.rows in
     let n = ap length e in
     nil _ _ _ _ _ _ _ _ _ c.loop-i.invariant c.loop-i-test.true (omega arith) (starts _ _ _ _ e c.leasts-least.ensures) c.min-low.ensures c.if-low-i.false
 
-pub overflow-add-count : goal.overflow-add-count
-overflow-add-count c =
-    let n = ap length c.as-slice-line.ensures.rows in
-    let b = c.as-slice-line.ensures.bound in
+pub overflow_add-count : goal.overflow_add-count
+overflow_add-count c =
+    let n = ap length c.as_slice-line.ensures.rows in
+    let b = c.as_slice-line.ensures.bound in
     let few = c.loop-i.invariant.few in
     omega arith
 
 pub returns-then-buffer-line : goal.returns-then-buffer-line
-returns-then-buffer-line c = let n = ap length c.as-slice-line.ensures.rows in (omega arith, refl)
+returns-then-buffer-line c = let n = ap length c.as_slice-line.ensures.rows in (omega arith, refl)
 
 pub returns : goal.returns
 returns c = marked_all _ _ _ _ _ _ _ _ c.loop-i.invariant c.loop-i-test.false

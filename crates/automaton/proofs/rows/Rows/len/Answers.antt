@@ -3,6 +3,6 @@ use Rattle.automaton.proofs.rows.Rows.len.Goals as goal
 
 pub returns : goal.returns
 returns c = record {
-  count = ap length c.as-slice.ensures.rows;
-  bound = c.as-slice.ensures.bound;
+  count = ap length c.as_slice.ensures.rows;
+  bound = c.as_slice.ensures.bound;
 }

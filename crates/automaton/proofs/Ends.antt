@@ -31,17 +31,6 @@ module _ (a : Automaton) (rows : List ℕ) (l r : ℕ) where
   pub ends : Reads a rows l r → Ends a rows l r
   ends x = by x.positions x.walks x.admits
 
--- ---- before the first symbol
-pub nothing : (a : Automaton) (rows : List ℕ) (g : Active) → g.count ≡ 0 → Tracks a rows 0 g
-nothing a rows g none = record {
-  few = omega arith;
-  rising = λ j k h l. absurd (omega arith);
-  begun = λ k h. absurd (omega arith);
-  sound = λ k q h e. absurd (omega arith);
-  complete = λ l q w. absurd (let h = later a rows l 0 q w in omega arith);
-  apart = λ j k q h l e f. omega arith;
-}
-
 -- none of the groups before k has a last position
 abbrev pub Idle : Automaton → Active → ℕ → Type 0
 Idle a g k = (j q : ℕ) → j < k → In (get_or g.sets j 0) q → In a.last q → ⊥
@@ -64,15 +53,6 @@ module _ (a : Automaton) (rows : List ℕ) (r : ℕ) (g : Active) (tr : Tracks a
           ]
         ]
 
-  pub ends_not : Idle a g g.count → Earliest a rows r r
-  ends_not idle = record {
-    reads = λ h. absurd (omega arith);
-    first = λ l h w. absurd (first l h w);
-  } where
-    first : (l : ℕ) → l < r → Ends a rows l r → ⊥
-    first l h (empty s n z) = omega arith
-    first l h (walk p w v) = let m = tr.complete l p w in idle m.0 p m.1 m.3 v
-
 -- a group with a last position, and one with none
 pub has_last : (x y : ℕ) → x < 2 ^ 64 → (bit_and x y ≡ 0 → ⊥) → (q : ℕ) × In x q × In y q
 has_last x y h f = elim (some_in (bit_and x y) (omega (arith, and_le_l x y))) [
@@ -92,9 +72,6 @@ pub record Best (a : Automaton) (rows : List ℕ) (i l r : ℕ) : Type 0 where
   pub ahead : (m s : ℕ) → m < s → s ≤ i → Ends a rows m s → Ahead (l, r) (m, s)
 
 module _ (a : Automaton) (rows : List ℕ) where
-  pub best_none : Best a rows 0 0 0
-  best_none = record { ordered = omega arith; within = omega arith; reads = λ h. absurd (omega arith); nought = λ h. refl; ahead = λ m s h g w. absurd (omega arith) }
-
   module _ (i l r e : ℕ) (b : Best a rows i l r) (x : Earliest a rows (i + 1) e) (up : e ≤ i + 1) where
     pub best_more : r - l < i + 1 - e → Best a rows (i + 1) e (i + 1)
     best_more h = record {

@@ -1,10 +1,10 @@
 -- Marking the symbols from the last to the first.
-use Rattle.std.proofs.Common.{◌≡◌, ℕ, ◌+◌, ◌-◌, ◌<◌, ◌≤◌, ◌⊎◌, List, length, get_or, take, drop, set, sum, sym, refl, ap, ◌∙◌, subst, inl, inr, arith, length-set, drop_of_length-le, length-take, length-take-le, get_or-set_other, get_or-set_same, drop-set-lt}
+use Rattle.std.proofs.Common.{◌≡◌, ℕ, ◌+◌, ◌-◌, ◌<◌, ◌≤◌, ◌⊎◌, List, length, get_or, take, drop, set, sum, sym, ap, ◌∙◌, subst, inl, inr, arith, length-set, length-take-le, get_or-set_other, get_or-set_same, drop-set-lt}
 use lib.Seq.{take-set-lt}
 use Rattle.std.proofs.lemmas.List.Sums.{sum_by-drop_more}
 use Rattle.std.proofs.lemmas.Bool.{cases_lt}
 use Rattle.automaton.specs.declared.machine.Automaton.{Automaton}
-use Rattle.automaton.specs.Marked.{Covered, Marked, Marks}
+use Rattle.automaton.specs.Marked.{Covered, Marked}
 use Rattle.automaton.specs.Tracks.{Ends, empty, walk, Earliest}
 use Rattle.automaton.proofs.Turns.{later}
 use Rattle.automaton.proofs.Ends.{reads, ends}
@@ -28,18 +28,6 @@ pub record Marking (a : Automaton) (rows least before after : List ℕ) (low cou
   pub few : count + i ≤ length rows
   pub room : length rows ≤ length before
   pub kept : length after ≡ length before
-
-pub marking_none : (a : Automaton) (rows least after : List ℕ) → length rows ≤ length after → Marking a rows least after after (length rows) 0 (length rows)
-marking_none a rows least after room = record {
-  lowest = λ j h k. absurd (omega arith);
-  from = inl refl;
-  marks = λ j h k. absurd (omega arith);
-  rest = λ j h. refl;
-  counted = (let long : length (take (length rows) after) ≤ length rows = omega (arith, length-take (length rows) after) in sym (ap sum (drop_of_length-le (take (length rows) after) long)));
-  few = omega arith;
-  room = room;
-  kept = refl;
-}
 
 module _ (a : Automaton) (rows least before after : List ℕ) (low count i : ℕ) (m : Marking a rows least before after low count (i + 1))
     (hi : i < length rows) (ls : (j : ℕ) → j < length rows → Earliest a rows (j + 1) (get_or least j 0))
@@ -90,13 +78,3 @@ module _ (a : Automaton) (rows least before after : List ℕ) (low count i : ℕ
     room = m.room;
     kept = length-set after i v ∙ m.kept;
   }
-
-pub marked_all : (a : Automaton) (rows least before after : List ℕ) (low count i : ℕ) → Marking a rows least before after low count i → i ≤ 0
-    → Marks a rows before after count
-marked_all a rows least before after low count i m h = record {
-  room = m.room;
-  kept = m.kept;
-  marks = λ j k. m.marks j (omega arith) k;
-  rest = m.rest;
-  counted = (let z : i ≡ 0 = omega arith in m.counted ∙ ap (λ n. sum (drop n (take (length rows) after))) z);
-}

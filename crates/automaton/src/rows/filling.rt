@@ -5,6 +5,7 @@ use super::Rows;
 
 impl Rows {
     /// No rows.
+    #[tactic(auto, unfolding(crate::specs::RowList::rows_of))]
     pub fn new() -> Rows
         ensures { rows_of result ≡ [] }
     {
@@ -15,6 +16,7 @@ impl Rows {
     }
 
     /// Adds the row of one symbol more. Where there are 160 rows already it says `false`, and adds nothing.
+    #[tactic(auto, unfolding(crate::specs::RowList::rows_of))]
     pub fn push(&mut self, row: u64) -> bool
         ensures { elim result [ true ↦ rows_of self.new ≡ rows_of self.old ++ (row ∷ []) | false ↦ (rows_of self.new ≡ rows_of self.old) × (length (rows_of self.old) ≡ 160) ] }
     {

@@ -1,11 +1,6 @@
-use Rattle.std.proofs.Common.{ℕ, ◌+◌, ◌<◌, length, sym, ◌∙◌, subst, arith, length-set, get_or-set_other, get_or-set_same, below_more}
-use lib.ListN.{length-replicate}
+use Rattle.std.proofs.Common.{◌+◌, ◌<◌, length, sym, ◌∙◌, subst, arith, length-set, get_or-set_other, get_or-set_same, below_more}
 use Rattle.automaton.specs.Tracks.{Earliest}
-use Rattle.automaton.proofs.Ends.{nothing}
 use Rattle.automaton.proofs.sweep.leasts.Goals as goal
-
-pub loop-i-init : goal.loop-i-init
-loop-i-init c = (nothing _ _ c.new-g.result c.new-g.ensures, length-replicate {A = ℕ} 160 0, λ k h. absurd (omega arith))
 
 pub loop-i-preserved : goal.loop-i-preserved
 loop-i-preserved c =

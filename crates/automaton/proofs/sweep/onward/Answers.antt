@@ -2,11 +2,8 @@ use Rattle.std.proofs.Common.{◌-◌, ◌^◌, ◌<◌, get_or, subst, inl, inr
 use lib.Bits.{and_le_r, or_lt}
 use lib.Count.{count_trailing_zeros}
 use Rattle.automaton.specs.Bit.{In}
-use Rattle.automaton.proofs.Bits.{in_and, in_or, or_in, low_in, low_below, rest_in}
+use Rattle.automaton.proofs.Bits.{in_and, in_or, or_in, low_in, rest_in}
 use Rattle.automaton.proofs.sweep.onward.Goals as goal
-
-pub bounds-follow-p : goal.bounds-follow-p
-bounds-follow-p c = low_below c.loop-rest.rest (omega arith) (omega arith)
 
 pub loop-rest-preserved : goal.loop-rest-preserved
 loop-rest-preserved c =

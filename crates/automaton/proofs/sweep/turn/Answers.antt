@@ -4,16 +4,13 @@ use Rattle.automaton.specs.Bit.{In}
 use Rattle.automaton.proofs.Ends.{ends_at, has_last, has_none}
 use Rattle.automaton.proofs.sweep.turn.Goals as goal
 
-pub returns-then-g-k-ne0 : goal.returns-then-g-k-ne0
-returns-then-g-k-ne0 c =
+pub returns-then-g-k-ne0-clause-earliest : goal.returns-then-g-k-ne0-clause-earliest
+returns-then-g-k-ne0-clause-earliest c =
     let g = c.advance.new.g in
     let k = c.loop-k.k in
     let f : get_or g.sets k 0 < 2 ^ 64 = search rules in
-    let q = has_last (get_or g.sets k 0) c.args.a.now.last f c.if-g-k-ne0.true in record {
-      tracks = c.advance.ensures;
-      earliest = ends_at _ _ _ _ c.advance.ensures k q.0 c.loop-k-test.true c.loop-k.invariant q.1 q.2;
-      bound = omega (arith, c.advance.ensures.begun k c.loop-k-test.true);
-    }
+    let q = has_last (get_or g.sets k 0) c.args.a.now.last f c.if-g-k-ne0.true in
+    ends_at _ _ _ _ c.advance.ensures k q.0 c.loop-k-test.true c.loop-k.invariant q.1 q.2
 
 pub loop-k-preserved : goal.loop-k-preserved
 loop-k-preserved c =

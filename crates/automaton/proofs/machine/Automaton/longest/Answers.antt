@@ -1,11 +1,8 @@
 use Rattle.std.proofs.Common.{subst}
 use Rattle.automaton.specs.Reads.{Longest, Silent}
-use Rattle.automaton.proofs.Ends.{reads, ends, nothing, best_none, best_more, best_same, longer, blank, shorter, silent}
+use Rattle.automaton.proofs.Ends.{reads, ends, best_more, best_same, longer, blank, shorter, silent}
 use Rattle.automaton.proofs.machine.Automaton.longest.Goals as goal
 use Rattle.automaton.proofs.machine.Automaton.longest.Goals.{then-r-l, else-r-l}
-
-pub loop-i-init : goal.loop-i-init
-loop-i-init c = (nothing _ _ c.new-g.result c.new-g.ensures, best_none _ _)
 
 pub loop-i-preserved : goal.loop-i-preserved
 loop-i-preserved c =

@@ -2,7 +2,7 @@ use Rattle.std.proofs.Common.{◌≡◌, ℕ, ◌+◌, ◌-◌, ◌<◌, ◌≤�
 use Rattle.std.proofs.lemmas.Bool.{cases_lt}
 use Rattle.automaton.specs.declared.machine.Automaton.{Automaton}
 use Rattle.automaton.specs.Tracks.{Earliest}
-use Rattle.automaton.proofs.Marking.{Marking, marking_none, put, covered, bare, marked_all}
+use Rattle.automaton.proofs.Marking.{Marking, put, covered, bare}
 use Rattle.automaton.proofs.machine.Automaton.mark.Goals as goal
 
 least_of : (less a b : ℕ) → less ≡ min a b → (less ≡ a) ⊎ (less ≡ b)
@@ -31,12 +31,6 @@ starts : (a : Automaton) (line rows least : List ℕ) → line ≡ rows → ((j 
     → (j : ℕ) → j < length rows → Earliest a rows (j + 1) (get_or least j 0)
 starts a line rows least e = subst (λ xs. (j : ℕ) → j < length xs → Earliest a xs (j + 1) (get_or least j 0)) e
 
-begun : (a : Automaton) (line rows least before : List ℕ) → line ≡ rows → length line ≤ length before → Marking a rows least before before (length line) 0 (length line)
-begun a line rows least before e h = subst (λ xs. Marking a xs least before before (length line) 0 (length line)) e (marking_none a line least before h)
-
-pub loop-i-init : goal.loop-i-init
-loop-i-init c = begun _ _ _ _ _ c.as_slice-line.ensures.rows c.if-buffer-line.false
-
 pub loop-i-preserved-then-low-i : goal.loop-i-preserved-then-low-i
 loop-i-preserved-then-low-i c =
     let e = c.as_slice-line.ensures.rows in
@@ -48,16 +42,3 @@ loop-i-preserved c =
     let e = c.as_slice-line.ensures.rows in
     let n = ap length e in
     nil _ _ _ _ _ _ _ _ _ c.loop-i.invariant c.loop-i-test.true (omega arith) (starts _ _ _ _ e c.leasts-least.ensures) c.min-low.ensures c.if-low-i.false
-
-pub overflow_add-count : goal.overflow_add-count
-overflow_add-count c =
-    let n = ap length c.as_slice-line.ensures.rows in
-    let b = c.as_slice-line.ensures.bound in
-    let few = c.loop-i.invariant.few in
-    omega arith
-
-pub returns-then-buffer-line : goal.returns-then-buffer-line
-returns-then-buffer-line c = let n = ap length c.as_slice-line.ensures.rows in (omega arith, refl)
-
-pub returns : goal.returns
-returns c = marked_all _ _ _ _ _ _ _ _ c.loop-i.invariant c.loop-i-test.false

@@ -46,6 +46,6 @@ front_suffices n line = elim (cases_lt (length line) 121) [
       ∙ sym (ap (verdict_text n line) (long_verdict line (omega arith))))
 ]
 
-pub one_more : (t : Tally) (v : Verdict) → (tallied t v).patterns ≡ one_more t.patterns
-one_more t (Ok counts) = refl
-one_more t (Err refusal) = refl
+pub one_more_lem : (t : Tally) (v : Verdict) → (tallied t v).patterns ≡ one_more t.patterns
+one_more_lem t (Ok counts) = refl
+one_more_lem t (Err refusal) = refl

@@ -1,4 +1,4 @@
-use Rattle.std.proofs.Common.{◌≡◌, ℕ, List, is_some, sym, refl, ap, ◌∙◌, subst}
+use Rattle.std.proofs.Common.{◌≡◌, is_some, ap, ◌∙◌, subst}
 use Rattle.alphabet.specs.Letters.{letter_reading}
 use Rattle.shelf.specs.Filing.{counts}
 use Rattle.proofreading.specs.Tallies.{Counts}

@@ -1,5 +1,5 @@
 -- The eight signs of a pattern.
-use Rattle.std.specs.Prelude.{◌≡◌, ℕ, Bool, true, false, ◌||◌, List, [], ◌∷◌, ◌==◌}
+use Rattle.std.specs.Prelude.{◌≡◌, ℕ, Bool, false, ◌||◌, List, [], ◌∷◌, ◌==◌}
 
 -- | * + ? ( ) { }
 abbrev pub is_sign : ℕ → Bool

@@ -1,7 +1,7 @@
 // Alphabets and notations, and the two that come with the shelf.
 #![tactic(auto)]
 
-ghost use Rattle.std.specs.Prelude.{◌≡◌, ℕ, Bool, List, Result};
+ghost use Rattle.std.specs.Prelude.{◌≡◌, ℕ, Bool, List, Result, IfOk};
 ghost use Rattle.alphabet.specs.declared.Cause.{Cause};
 ghost use Rattle.alphabet.specs.Signs.{is_sign, BeginsNoSign};
 ghost use Rattle.alphabet.specs.Causes.{cause_number};
@@ -55,7 +55,7 @@ pub trait Notation: Alphabet {
         ensures keeps_meaning { Self.Alphabet.meaning self.new ≡ Self.Alphabet.meaning self.old }
         ensures keeps_reading { (other : List ℕ) → BeginsNoSign other → reading self.new other ≡ reading self.old other };
 
-    ghost uses_some: { (s : Self) (bytes : List ℕ) → BeginsNoSign bytes → made (reading s bytes) (UsesSome bytes) };
+    ghost uses_some: { (s : Self) (bytes : List ℕ) → BeginsNoSign bytes → IfOk (reading s bytes) (UsesSome bytes) };
 }
 
 // Whether a byte is one of the eight signs.

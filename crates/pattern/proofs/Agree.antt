@@ -1,12 +1,12 @@
 -- What the reader's functions do comes to what the scan from left to right comes to.
-use Rattle.std.proofs.Common.{◌≡◌, ℕ, zero, suc, ◌+◌, ◌<◌, ◌≤◌, Bool, true, false, cond, ltb, List, [], ◌∷◌, ◌++◌, length, drop, Ok, Err, Result, sym, refl, ap, ◌∙◌, subst, add-one, arith}
+use Rattle.std.proofs.Common.{◌≡◌, ℕ, zero, suc, ◌+◌, ◌<◌, ◌≤◌, true, false, cond, ltb, List, [], ◌∷◌, ◌++◌, length, drop, Ok, Err, Result, sym, refl, ap, ◌∙◌, subst, add-one, arith}
 use borrow.Author.Tests.{lt-true, le-false}
 use Rattle.pattern.specs.declared.fault.Fault.{Fault}
-use Rattle.pattern.specs.declared.fault.Fault.TheVariants.{BadTest, MissingUnit, LooseBracket, TooDeep, TooManyTests, TooManyTags, RepeatedTag}
+use Rattle.pattern.specs.declared.fault.Fault.TheVariants.{MissingUnit, LooseBracket, TooDeep, TooManyTests, TooManyTags, RepeatedTag}
 use Rattle.pattern.specs.declared.token.Kind.{Kind}
 use Rattle.pattern.specs.declared.token.Token.{Token}
-use Rattle.pattern.specs.Expressions.{Expr, test, seq, either, star, plus, opt, tag, has_tag, Syntax}
-use Rattle.pattern.specs.Tokens.{token, code_of, tag_of}
+use Rattle.pattern.specs.Expressions.{Expr, test, either, star, plus, tag, Syntax}
+use Rattle.pattern.specs.Tokens.{code_of, tag_of}
 use Rattle.pattern.specs.Scanning.{Before, nothing, so_far, join, choose, Bracket, whole, plain, tagged, Frame, frame, State, want, have, Step, go, stop, unit_step, step, at_end, conclude, scan, scanned}
 use Rattle.pattern.specs.Descent.{Source, look, at, kind_at, offset_at, codes, tags, is_end, is_or, is_unit, is_close, is_close_tag, is_repeat, is_opening, Out, good, bad, Want, group, branch, item, unit, branches, items, repeats, Reads, group_then, group_bad, branches_end, branches_or, branches_bad, branch_then, branch_bad, items_end, items_more, items_bad, item_then, item_bad, unit_test, unit_tests, unit_misread, unit_deep, unit_group, unit_group_bad, unit_group_loose, unit_tags, unit_tag, unit_tag_bad, unit_tag_loose, unit_none, repeats_end, repeats_star, repeats_star_tag, repeats_plus, repeats_plus_tag, repeats_opt, Whole, ended, fault, loose}
 use Rattle.pattern.proofs.Steps.{codes_next, tags_next, absurd_of, is_or_lem, is_close_lem, is_close_tag_lem}

@@ -1,10 +1,8 @@
 -- Tokens one after another.
-use Rattle.std.proofs.Common.{◌≡◌, ℕ, zero, suc, ◌+◌, ◌-◌, ◌<◌, ◌≤◌, Bool, true, false, cond, ◌||◌, eqb, List, [], ◌∷◌, ◌++◌, length, get_or, take, drop, set, Some, None, Ok, Err, Option, Result, sym, refl, ap, ◌∙◌, subst, append_assoc, arith, length-drop, length-set, drop-cons, drop-drop}
+use Rattle.std.proofs.Common.{◌≡◌, ℕ, zero, suc, ◌+◌, ◌-◌, ◌<◌, ◌≤◌, false, List, [], ◌∷◌, ◌++◌, length, get_or, take, drop, set, Some, None, Option, sym, refl, ap, ◌∙◌, subst, append_assoc, arith, length-drop, drop-cons, drop-drop}
 use Rattle.std.proofs.lemmas.List.{take_more_set, drop_all}
-use Rattle.alphabet.specs.declared.Cause.{Cause}
 use Rattle.alphabet.specs.Signs.{is_sign, BeginsNoSign}
 use Rattle.pattern.specs.declared.token.Kind.{Kind}
-use Rattle.pattern.specs.declared.token.Kind.TheVariants.{Test}
 use Rattle.pattern.specs.declared.token.Token.{Token}
 use Rattle.pattern.specs.Tokens.{Reading, SameReading, sign_kind, token, tested, first_token, tokens_from, tokens}
 

@@ -2,16 +2,15 @@
 use Rattle.std.proofs.Common.{◌≡◌, ℕ, zero, suc, ◌+◌, ◌-◌, ◌<◌, ◌≤◌, Bool, true, false, cond, eqb, ltb, List, [], ◌∷◌, ◌++◌, length, Some, None, Ok, Err, Option, Result, sym, refl, ap, ◌∙◌, subst, append-nil, arith, ltb-true, MatchResult}
 use Rattle.alphabet.specs.declared.Cause.{Cause}
 use Rattle.pattern.specs.declared.fault.Fault.{Fault}
-use Rattle.pattern.specs.declared.fault.Fault.TheVariants.{TooDeep, TooManyTests, TooManyTags, RepeatedTag}
 use Rattle.pattern.specs.declared.kept.Pattern.{Pattern}
 use Rattle.pattern.specs.declared.token.Kind.{Kind}
 use Rattle.pattern.specs.declared.token.Token.{Token}
 use Rattle.pattern.specs.Expressions.{Expr, test, seq, either, star, plus, opt, tag, has_tag, Syntax}
 use Rattle.pattern.specs.Tokens.{Reading, sign_kind, token, tested, first_token, tokens_from, tokens, code_of, tag_of}
-use Rattle.pattern.specs.Scanning.{Before, nothing, so_far, join, choose, Bracket, whole, plain, tagged, Frame, frame, State, want, have, Step, go, stop, unit_step, close_step, close_tag_step, end_step, step, at_end, conclude, scan, start, scanned}
+use Rattle.pattern.specs.Scanning.{Before, nothing, so_far, join, choose, Bracket, whole, plain, tagged, Frame, frame, State, want, have, Step, go, stop, unit_step, close_step, close_tag_step, end_step, step, conclude, scan, start, scanned}
 use Rattle.pattern.specs.Descent.{is_end}
 use Rattle.pattern.specs.Patterns.{syntax, written}
-use Rattle.pattern.specs.Grammar.{Part, group, branch, unit, Seen, one_test_more, one_tag_more, Derives, a_test, a_group, a_tag, none_or_more, one_or_more, none_or_one, first_unit, next_unit, first_branch, next_branch, Derived, Derivable, DerivesOnly}
+use Rattle.pattern.specs.Grammar.{Part, group, branch, unit, Seen, one_tag_more, Derives, a_test, a_group, a_tag, none_or_more, one_or_more, none_or_one, first_unit, next_unit, first_branch, next_branch, Derived, Derivable, DerivesOnly}
 use Rattle.pattern.proofs.Steps.{absurd_of}
 use Rattle.pattern.proofs.Agree.{is_below}
 

@@ -1,5 +1,5 @@
 -- What is gathered of an expression, from what is gathered of its parts.
-use Rattle.std.proofs.Common.{◌≡◌, ℕ, ◌+◌, ◌-◌, ◌^◌, ◌<◌, ◌≤◌, Bool, true, false, ◌&&◌, ◌||◌, eqb, List, length, get_or, sym, refl, ap, ◌∙◌, subst, arith, eqb-true}
+use Rattle.std.proofs.Common.{◌≡◌, ℕ, ◌+◌, ◌^◌, ◌<◌, ◌≤◌, Bool, true, false, ◌&&◌, ◌||◌, eqb, List, get_or, sym, refl, ap, ◌∙◌, subst, arith, eqb-true}
 use lib.Bits.{bit_or}
 use borrow.Author.Tests.{eq-true}
 use Rattle.pattern.specs.declared.node.Node.{Node}
@@ -9,7 +9,7 @@ use Rattle.pattern.specs.Expressions.{Expr, test, seq, either, star, plus, opt, 
 use Rattle.pattern.specs.Positions.{bit, has_empty, begins, ends, follows, size, numbered}
 use Rattle.pattern.specs.Trees.{node, Stands, a_test, a_seq, an_or, a_star, a_plus, an_opt, a_tag}
 use Rattle.pattern.specs.Gathering.{Numerable, Linked, Joined, Gathered}
-use Rattle.pattern.proofs.BitSets.{bit-or, bit_one, bit_none, same_test}
+use Rattle.pattern.proofs.BitSets.{bit-or, bit_one, same_test}
 use Rattle.pattern.proofs.Sets.{and_true}
 
 -- the expression of a node, by what the node is

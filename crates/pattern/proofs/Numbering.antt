@@ -1,8 +1,8 @@
 -- The tests of what is read are numbered from left to right.
-use Rattle.std.proofs.Common.{◌≡◌, ℕ, ◌+◌, ◌<◌, ◌≤◌, Bool, true, false, ◌&&◌, eqb, List, [], ◌∷◌, ◌++◌, length, Ok, sym, refl, ap, ◌∙◌, subst, append-nil, arith, length-append}
+use Rattle.std.proofs.Common.{◌≡◌, ℕ, ◌+◌, true, ◌&&◌, [], ◌∷◌, ◌++◌, length, sym, refl, ap, ◌∙◌, subst, append-nil, arith, length-append}
 use borrow.Author.Tests.{eq-true}
 use Rattle.pattern.specs.declared.token.Kind.{Kind}
-use Rattle.pattern.specs.Expressions.{Expr, test, seq, either, star, plus, opt, tag}
+use Rattle.pattern.specs.Expressions.{Expr}
 use Rattle.pattern.specs.Tokens.{code_of}
 use Rattle.pattern.specs.Positions.{size, numbered}
 use Rattle.pattern.specs.Descent.{Source, kind_at, codes, Out, good, bad, Want, group, branch, item, unit, branches, items, repeats, Reads, group_then, group_bad, branches_end, branches_or, branches_bad, branch_then, branch_bad, items_end, items_more, items_bad, item_then, item_bad, unit_test, unit_tests, unit_misread, unit_deep, unit_group, unit_group_bad, unit_group_loose, unit_tags, unit_tag, unit_tag_bad, unit_tag_loose, unit_none, repeats_end, repeats_star, repeats_star_tag, repeats_plus, repeats_plus_tag, repeats_opt}

@@ -1,5 +1,5 @@
 -- The tests that begin, end and follow, as tests that compute and as the rules of a walk.
-use Rattle.std.proofs.Common.{◌≡◌, ℕ, ◌+◌, Bool, true, false, ◌&&◌, ◌||◌, eqb, ◌⊎◌, sym, refl, ap, ◌∙◌, subst, inl, inr, arith, eqb-true}
+use Rattle.std.proofs.Common.{◌≡◌, ℕ, ◌+◌, Bool, true, false, ◌&&◌, ◌||◌, ◌⊎◌, sym, refl, subst, inl, inr, arith, eqb-true}
 use borrow.Author.Tests.{eq-true}
 use Rattle.pattern.specs.Expressions.{Expr, test, seq, either, star, plus, opt, tag}
 use Rattle.pattern.specs.Positions.{has_empty, begins, ends, follows, size, numbered}

@@ -1,5 +1,5 @@
 -- A walk is a word, of an expression whose tests are numbered from left to right.
-use Rattle.std.proofs.Common.{◌≡◌, ℕ, ◌+◌, ◌<◌, ◌≤◌, List, [], ◌∷◌, ◌++◌, sym, refl, ap, subst, arith}
+use Rattle.std.proofs.Common.{◌≡◌, ℕ, ◌<◌, ◌≤◌, List, [], ◌∷◌, ◌++◌, refl, ap, subst, arith}
 use Rattle.pattern.specs.Expressions.{Expr, seq, either, star, plus, opt, tag, test, Word}
 use Rattle.pattern.proofs.Walks.{Null, First, Last, Follow, Path, Walk, Ranged, path_in}
 

@@ -1,16 +1,16 @@
 -- The walks of a pattern's automaton are its words.
-use Rattle.std.proofs.Common.{◌≡◌, ℕ, zero, suc, ◌+◌, ◌-◌, ◌<◌, ◌≤◌, Bool, true, List, [], ◌∷◌, get_or, sym, refl, ap, ◌∙◌, subst, arith}
+use Rattle.std.proofs.Common.{◌≡◌, ℕ, ◌+◌, ◌-◌, ◌<◌, ◌≤◌, true, List, [], ◌∷◌, get_or, sym, refl, ap, ◌∙◌, subst, arith}
 use Rattle.automaton.specs.declared.machine.Automaton.{Automaton}
 use Rattle.automaton.specs.Bit.{In}
 use Rattle.automaton.specs.Reads as machine
-use Rattle.pattern.specs.Expressions.{Expr, Word}
-use Rattle.pattern.specs.Positions.{bit, size, numbered}
+use Rattle.pattern.specs.Expressions.{Expr}
+use Rattle.pattern.specs.Positions.{size, numbered}
 use Rattle.pattern.specs.Gathering.{PositionsOf}
 use Rattle.pattern.specs.Spelling.{tests_of, Below, HasWords}
 use Rattle.pattern.proofs.BitSets.{bit_in, in_bit}
 use Rattle.pattern.proofs.Sets.{to_null, of_null, to_first, of_first, to_last, of_last, to_follow, of_follow, to_ranged}
 use Rattle.pattern.proofs.Walks.{First, Last, Follow, Path, Walk, Ranged, word_walk}
-use Rattle.pattern.proofs.Spelled.{in_first, in_last, in_follow, walk_word}
+use Rattle.pattern.proofs.Spelled.{in_first, in_follow, walk_word}
 
 module _ (e : Expr) (a : Automaton) (p : PositionsOf e a) (n : numbered e 1 ≡ true) (few : size e ≤ 64) where
   ranged : Ranged e 1 (1 + size e)

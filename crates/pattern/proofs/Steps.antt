@@ -1,5 +1,5 @@
 -- The steps of the reader: what is known before a turn gives what is known after it.
-use Rattle.std.proofs.Common.{◌≡◌, ℕ, zero, suc, ◌+◌, ◌*◌, ◌<◌, ◌≤◌, Bool, true, false, ◌||◌, List, [], ◌∷◌, ◌++◌, length, get_or, take, set, Ok, Err, Result, sym, refl, ap, ◌∙◌, subst, append_assoc, append-nil, suc-le-suc, zero-le, add-one, arith, length-append, length-set, MatchResult}
+use Rattle.std.proofs.Common.{◌≡◌, ℕ, zero, suc, ◌+◌, ◌*◌, ◌<◌, ◌≤◌, Bool, true, false, ◌||◌, List, [], ◌∷◌, ◌++◌, length, get_or, take, set, Ok, Result, sym, refl, ap, ◌∙◌, subst, append_assoc, append-nil, add-one, arith, length-append, length-set, MatchResult}
 use Rattle.std.proofs.lemmas.Result.{MatchResult-weaker}
 use Rattle.std.proofs.lemmas.List.{take_more_set}
 use Rattle.pattern.specs.declared.fault.Fault.{Fault}
@@ -8,9 +8,9 @@ use Rattle.pattern.specs.declared.token.Token.{Token}
 use Rattle.pattern.specs.declared.node.Node.{Node}
 use Rattle.pattern.specs.declared.reader.Reader.{Reader}
 use Rattle.pattern.specs.declared.reader.Part.{Part}
-use Rattle.pattern.specs.Expressions.{Expr, test, seq, either, star, plus, opt, tag, has_tag}
+use Rattle.pattern.specs.Expressions.{Expr, test, tag, has_tag}
 use Rattle.pattern.specs.Tokens.{token, code_of, tag_of}
-use Rattle.pattern.specs.Descent.{Source, source, look, at, kind_at, offset_at, codes_before, tags_before, codes, tags, is_end, is_or, is_unit, is_close, is_close_tag, is_repeat, is_opening, Out, good, bad, Want, group, branch, item, unit, branches, items, repeats, Reads, branches_or, items_more, unit_test, unit_group, unit_tag, item_then}
+use Rattle.pattern.specs.Descent.{Source, look, at, kind_at, offset_at, codes_before, tags_before, codes, tags, is_or, is_unit, is_close, is_close_tag, is_repeat, Out, good, bad, Want, group, item, unit, repeats, Reads, unit_test, unit_group, unit_tag, item_then}
 use Rattle.pattern.specs.Trees.{node, Stands, a_test, a_seq, an_or, a_star, a_plus, an_opt, a_tag}
 use Rattle.pattern.specs.Nodes.{Means, Noted, Added, Tested, Kept, Did, Gone, Repeated, Ready}
 

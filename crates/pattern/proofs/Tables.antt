@@ -1,11 +1,11 @@
 -- A table whose node stands for an expression gives that expression.
-use Rattle.std.proofs.Common.{◌≡◌, ℕ, zero, suc, ◌+◌, ◌<◌, ◌≤◌, List, length, take, sym, refl, ap, ◌∙◌, arith, length-take}
+use Rattle.std.proofs.Common.{◌≡◌, ℕ, zero, suc, ◌<◌, ◌≤◌, List, length, ap, ◌∙◌, arith, length-take}
 use Rattle.pattern.specs.declared.node.Node.{Node}
 use Rattle.pattern.specs.declared.node.Node.TheVariants.{Test, Seq, Or, Star, Plus, Opt, Tag}
 use Rattle.pattern.specs.declared.reader.Reader.{Reader}
 use Rattle.pattern.specs.Expressions.{Expr, test, seq, either, star, plus, opt, tag, Syntax}
-use Rattle.pattern.specs.Descent.{Source, codes, tags}
-use Rattle.pattern.specs.Trees.{node, tree, Stands, a_test, a_seq, an_or, a_star, a_plus, an_opt, a_tag}
+use Rattle.pattern.specs.Descent.{Source}
+use Rattle.pattern.specs.Trees.{tree, Stands, a_test, a_seq, an_or, a_star, a_plus, an_opt, a_tag}
 use Rattle.pattern.specs.Nodes.{Noted}
 
 -- the expression of a node, with those of its children at hand

@@ -1,5 +1,5 @@
 -- A word is a walk: from a test that may begin one, over tests that may follow one another, to a test that may end one.
-use Rattle.std.proofs.Common.{◌≡◌, ℕ, ◌+◌, List, [], ◌∷◌, ◌++◌, sym, refl, subst, append_assoc, append-nil}
+use Rattle.std.proofs.Common.{◌≡◌, ℕ, ◌+◌, List, [], ◌∷◌, ◌++◌, append-nil}
 use Rattle.pattern.specs.Expressions.{Expr, seq, either, star, plus, opt, tag, test, Word}
 
 -- an expression with the empty word

@@ -1,5 +1,5 @@
 -- What is gathered of an expression's positions; the test p has the position p - 1.
-use Rattle.std.specs.Prelude.{◌≡◌, ℕ, ◌+◌, ◌<◌, ◌≤◌, Bool, true, ◌&&◌, ◌||◌, List, length, slice_index}
+use Rattle.std.specs.Prelude.{◌≡◌, ℕ, ◌+◌, ◌<◌, ◌≤◌, true, ◌&&◌, ◌||◌, List, length, slice_index}
 use Rattle.automaton.specs.declared.machine.Automaton.{Automaton}
 use Rattle.pattern.specs.declared.node.Node.{Node}
 use Rattle.pattern.specs.declared.positions.Edges.{Edges}

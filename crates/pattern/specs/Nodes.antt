@@ -5,7 +5,7 @@ use Rattle.pattern.specs.declared.reader.Part.{Part}
 use Rattle.pattern.specs.declared.reader.Reader.{Reader}
 use Rattle.pattern.specs.Expressions.{Expr, has_tag}
 use Rattle.pattern.specs.Trees.{node, Stands}
-use Rattle.pattern.specs.Descent.{Source, codes, tags, Out, good, bad, Want, repeats, Reads}
+use Rattle.pattern.specs.Descent.{Source, codes, tags, Out, good, Want, repeats, Reads}
 
 -- a part's node stands for an expression, and its mark says whether that has a tag
 pub record Means (ns : List Node) (k : Part) (e : Expr) : Type 0 where

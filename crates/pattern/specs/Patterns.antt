@@ -1,5 +1,5 @@
 -- A kept pattern, as it was written.
-use Rattle.std.specs.Prelude.{ℕ, take, Ok, Err, Result}
+use Rattle.std.specs.Prelude.{take, Ok, Err, Result}
 use Rattle.pattern.specs.declared.fault.Fault.{Fault}
 use Rattle.pattern.specs.declared.kept.Pattern.{Pattern}
 use Rattle.pattern.specs.Expressions.{Syntax}

@@ -1,5 +1,5 @@
 -- What a pattern's tokens come to, from left to right: the pattern as it was written, or the first fault.
-use Rattle.std.specs.Prelude.{ℕ, ◌+◌, Bool, true, false, cond, List, [], ◌∷◌, ◌++◌, length, Ok, Err, Result, nat_le, nat_lt}
+use Rattle.std.specs.Prelude.{ℕ, ◌+◌, cond, List, [], ◌∷◌, ◌++◌, length, Ok, Err, Result, nat_le, nat_lt}
 use Rattle.pattern.specs.declared.fault.Fault.{Fault}
 use Rattle.pattern.specs.declared.fault.Fault.TheVariants.{TooLong, BadTest, MissingUnit, LooseBracket, TooDeep, TooManyTests, TooManyTags, RepeatedTag}
 use Rattle.pattern.specs.declared.token.Kind.{Kind}

@@ -1,5 +1,5 @@
 -- The tokens of a pattern's bytes.
-use Rattle.std.specs.Prelude.{◌≡◌, ℕ, zero, suc, ◌+◌, ◌-◌, Bool, true, false, cond, List, [], ◌∷◌, ◌++◌, length, Some, None, Ok, Err, Option, Result, ◌==◌}
+use Rattle.std.specs.Prelude.{◌≡◌, ℕ, zero, suc, ◌+◌, ◌-◌, cond, List, [], ◌∷◌, length, Some, None, Ok, Err, Option, Result, ◌==◌}
 use Rattle.alphabet.specs.declared.Cause.{Cause}
 use Rattle.alphabet.specs.Signs.{BeginsNoSign}
 use Rattle.pattern.specs.declared.token.Kind.{Kind}

@@ -1,5 +1,5 @@
 -- From what the automaton finds to what the calls answer.
-use Rattle.std.proofs.Common.{◌≡◌, ℕ, ◌<◌, ◌≤◌, Bool, true, false, cond, leb, List, length, get_or, Some, None, Ok, Err, Option, Result, sym, refl, ap, ◌∙◌, subst, MatchOption}
+use Rattle.std.proofs.Common.{◌≡◌, ℕ, ◌<◌, ◌≤◌, Bool, cond, List, length, get_or, Some, None, Ok, Err, Option, Result, sym, refl, subst, MatchOption}
 use borrow.Author.Tests.{le-true, lt-false}
 use Rattle.std.specs.Option.{ok_or}
 use Rattle.automaton.specs.declared.machine.Automaton.{Automaton}
@@ -9,7 +9,6 @@ use Rattle.pattern.specs.Expressions.{Syntax}
 use Rattle.pattern.specs.Spelling.{HasWords}
 use Rattle.shelf.specs.declared.refusal.Refusal.{Refusal}
 use Rattle.shelf.specs.declared.refusal.Refusal.TheVariants.{BufferTooShort, NoMatch}
-use Rattle.shelf.specs.Matching.{test_admits, Longest}
 use Rattle.shelf.specs.RowTables.{RowsOf}
 use Rattle.shelf.specs.Reports.{LongestBy, with_room, MarksBy}
 use Rattle.shelf.proofs.Bridging.{longest_of, none_of, marks_of}

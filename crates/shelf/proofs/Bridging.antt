@@ -1,17 +1,15 @@
 -- What the automaton reads by the rows of a line is what the pattern reads of the line.
-use Rattle.std.proofs.Common.{◌≡◌, ℕ, zero, suc, ◌+◌, ◌-◌, ◌<◌, ◌≤◌, Bool, true, false, ◌&&◌, ltb, ◌⊎◌, List, [], ◌∷◌, ◌++◌, length, get_or, take, drop, sum, sym, refl, ap, ◌∙◌, subst, inl, inr, arith, length-drop, length-take, drop-cons, ltb-true}
+use Rattle.std.proofs.Common.{◌≡◌, ℕ, zero, suc, ◌+◌, ◌-◌, ◌≤◌, Bool, ltb, List, [], ◌∷◌, length, get_or, take, drop, sum, sym, refl, ap, ◌∙◌, subst, inl, inr, arith, length-drop, drop-cons}
 use borrow.Author.Tests.{lt-true}
 use Rattle.automaton.specs.declared.machine.Automaton.{Automaton}
-use Rattle.automaton.specs.Bit.{In}
 use Rattle.automaton.specs.Reads as machine
 use Rattle.automaton.specs.Marked as marking
 use Rattle.pattern.specs.Expressions.{Expr, Word}
-use Rattle.pattern.specs.Positions.{bit}
 use Rattle.pattern.specs.Spelling.{tests_of, Below, HasWords}
 use Rattle.pattern.proofs.BitSets.{bit_in, in_bit}
 use Rattle.pattern.proofs.Sets.{and_true, and_both}
-use Rattle.shelf.specs.Matching.{test_admits, Admitted, stretch, Reads, Ahead, Longest, NoneReads, Covered, MarkedRight, Marks}
-use Rattle.shelf.specs.RowTables.{RowOf, RowsOf}
+use Rattle.shelf.specs.Matching.{test_admits, Admitted, stretch, Reads, Longest, NoneReads, Covered, MarkedRight, Marks}
+use Rattle.shelf.specs.RowTables.{RowsOf}
 use Rattle.shelf.proofs.Rowing.{rows_length}
 
 module _ {S : Type 0} (meaning : ℕ → S → Bool) (codes : List ℕ) where

@@ -1,8 +1,8 @@
 -- What reads by a word is what belongs to the language.
-use Rattle.std.proofs.Common.{◌≡◌, ℕ, ◌≤◌, Bool, true, ◌⊎◌, List, [], ◌∷◌, ◌++◌, length, sym, refl, ap, ◌∙◌, subst, inl, inr}
+use Rattle.std.proofs.Common.{◌≡◌, ℕ, Bool, List, [], ◌∷◌, ◌++◌, sym, refl, ap, subst, inl, inr}
 use Rattle.pattern.specs.Expressions.{Expr, test, seq, either, star, plus, opt, tag, Word}
-use Rattle.shelf.specs.Matching.{Admitted, stretch, Reads}
-use Rattle.shelf.specs.Languages.{Concatenation, Closure, none, more, OneSymbol, Language, ReadsByLanguage}
+use Rattle.shelf.specs.Matching.{Admitted, stretch}
+use Rattle.shelf.specs.Languages.{Closure, none, more, OneSymbol, Language, ReadsByLanguage}
 
 module _ {S : Type 0} (admits : ℕ → S → Bool) where
   -- a word that is cut in two cuts its string in two

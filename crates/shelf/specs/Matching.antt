@@ -1,6 +1,6 @@
 -- What a pattern reads of a line. Nothing here speaks of an automaton.
-use Rattle.std.specs.Prelude.{◌≡◌, ℕ, ◌+◌, ◌-◌, ◌<◌, ◌≤◌, Bool, true, ◌⊎◌, List, [], ◌∷◌, length, take, sum, slice_index, slice_range}
-use Rattle.pattern.specs.Expressions.{Expr, Word, Syntax}
+use Rattle.std.specs.Prelude.{◌≡◌, ℕ, ◌-◌, ◌<◌, ◌≤◌, Bool, true, ◌⊎◌, List, [], ◌∷◌, length, take, sum, slice_index, slice_range}
+use Rattle.pattern.specs.Expressions.{Expr, Word}
 
 -- whether the test p of a pattern admits a symbol, by the number under which the alphabet keeps it
 abbrev pub test_admits : {S : Type 0} → (ℕ → S → Bool) → List ℕ → ℕ → S → Bool

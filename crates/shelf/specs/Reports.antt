@@ -1,5 +1,5 @@
 -- What the calls that report of a line answer.
-use Rattle.std.specs.Prelude.{◌≡◌, ℕ, Bool, cond, List, length, Some, None, Ok, Err, Result, nat_le, nat_lt}
+use Rattle.std.specs.Prelude.{◌≡◌, ℕ, Bool, cond, List, Some, None, Ok, Err, Result, nat_le, nat_lt}
 use Rattle.pattern.specs.Expressions.{Syntax}
 use Rattle.shelf.specs.declared.place.Place.{Place}
 use Rattle.shelf.specs.declared.refusal.Refusal.{Refusal}

@@ -10,7 +10,7 @@ fn written(rt: HostRuntime) {
     out.byte(b',');
     out.number(0);
     out.repeat(b'-', 3);
-    assert!(rt; out.bytes() == b"n 18446744073709551615,0---");
+    assert!(rt; out.bytes() == b"n 18446744073709551615,0---".as_slice());
     out.clear();
     out.repeat(b'a', ROOM + 1);
     assert!(rt; out.bytes().len() == ROOM);
@@ -21,10 +21,10 @@ fn cut_anywhere(rt: HostRuntime) {
     let mut short: LineBuffer<3> = LineBuffer::new();
     assert!(rt; short.take_in(b"ab") == (2, false));
     assert!(rt; short.take_in(b"cd\nef") == (3, true));
-    assert!(rt; short.bytes() == b"abc");
+    assert!(rt; short.bytes() == b"abc".as_slice());
     let mut long: LineBuffer<201> = LineBuffer::new();
     assert!(rt; long.take_in(b"abcd\nef") == (5, true));
-    assert!(rt; long.bytes() == b"abcd");
+    assert!(rt; long.bytes() == b"abcd".as_slice());
     long.clear();
     assert!(rt; long.bytes().is_empty());
 }

@@ -1,20 +1,20 @@
-use Rattle.std.proofs.Common.{◌≡◌, ℕ, ◌+◌, ◌-◌, ◌<◌, ◌≤◌, List, [], ◌++◌, length, take, drop, sym, refl, ap, ◌∙◌, append-nil, arith, length-set}
+use Rattle.std.proofs.Common.{◌<◌, ◌++◌, length, take, drop, sym, ap, ◌∙◌, append-nil, arith, length-set}
 use Rattle.pattern.proofs.Cuts.{same_first, listed_more, none_left}
 use Rattle.pattern.proofs.cutter.cut.Goals as goal
 
 pub loop-at-preserved : goal.loop-at-preserved
 loop-at-preserved g c =
     let inv = c.loop-at.invariant in
-    let e = c.first-token-kind.ensures in
+    let e = c.first_token-kind.ensures in
     let reading = g.N.Notation.reading c.args.notation.now in
     let first = e.value ∙ same_first _ reading inv.5 c.loop-at.at (drop c.loop-at.at c.args.bytes.now) in
     let room : c.loop-at.len < length c.loop-at.list = omega (arith, inv.0, inv.1, inv.2, c.loop-at-test.true, c.requires) in (
-      omega (arith, inv.0, e.takes-some.0),
-      e.takes-some.1,
+      omega (arith, inv.0, e.takes_some.0),
+      e.takes_some.1,
       simp length-set inv.2,
-      listed_more reading _ _ _ _ _ _ room first e.takes-some.0 e.takes-some.1 inv.3,
-      e.keeps-meaning ∙ inv.4,
-      λ bytes b. e.keeps-reading bytes b ∙ inv.5 bytes b,
+      listed_more reading _ _ _ _ _ _ room first e.takes_some.0 e.takes_some.1 inv.3,
+      e.keeps_meaning ∙ inv.4,
+      λ bytes b. e.keeps_reading bytes b ∙ inv.5 bytes b,
     )
 
 pub returns : goal.returns
@@ -25,6 +25,6 @@ returns g c =
     record {
       value = sym (append-nil _) ∙ ap (λ l. take c.loop-at.len c.loop-at.list ++ l) (sym none) ∙ inv.3;
       few = omega (arith, inv.0, inv.1, c.requires);
-      keeps-meaning = inv.4;
-      keeps-reading = inv.5;
+      keeps_meaning = inv.4;
+      keeps_reading = inv.5;
     }

@@ -1,4 +1,4 @@
-use Rattle.std.proofs.Common.{◌≡◌, ℕ, ◌+◌, ◌-◌, ◌<◌, ◌≤◌, List, length, drop, Ok, Err, sym, refl, ap, ◌∙◌, subst, arith, length-drop}
+use Rattle.std.proofs.Common.{◌≡◌, ◌-◌, length, drop, Ok, Err, sym, refl, ap, ◌∙◌, subst, arith, length-drop}
 use Rattle.std.proofs.lemmas.List.{take_rest}
 use Rattle.std.proofs.lemmas.Result.{IfOk-at_ok}
 use Rattle.alphabet.specs.Readings.{UsesSome}
@@ -15,9 +15,9 @@ pub returns-in-Some : goal.returns-in-Some
 returns-in-Some g c =
     record {
       value = sign_first (g.N.Notation.reading c.args.notation.now) c.args.bytes.now c.args.at c.in-Some.kind c.requires (sym c.in-Some.ensures);
-      takes-some = (omega arith, omega (arith, c.requires));
-      keeps-meaning = refl;
-      keeps-reading = λ _ _. refl;
+      takes_some = (omega arith, omega (arith, c.requires));
+      keeps_meaning = refl;
+      keeps_reading = λ _ _. refl;
     }
 
 pub returns-in-Ok : goal.returns-in-Ok
@@ -30,9 +30,9 @@ returns-in-Ok g c =
     let two = IfOk-at_ok (UsesSome (drop at bytes)) was (g.met.N.Notation.uses_some c.args.notation.now (drop at bytes) (begins bytes at c.requires none)) in
     record {
       value = ap (tested at (length bytes - at)) (sym was) ∙ test_first reading bytes at c.requires none;
-      takes-some = (two.some, omega (arith, two.within, length-drop at bytes, c.requires));
-      keeps-meaning = c.in-Ok.ensures.keeps-meaning;
-      keeps-reading = c.in-Ok.ensures.keeps-reading;
+      takes_some = (two.some, omega (arith, two.within, length-drop at bytes, c.requires));
+      keeps_meaning = c.in-Ok.ensures.keeps_meaning;
+      keeps_reading = c.in-Ok.ensures.keeps_reading;
     }
 
 pub returns-in-Err : goal.returns-in-Err
@@ -44,7 +44,7 @@ returns-in-Err g c =
     let was : reading (drop at bytes) ≡ Err c.in-Err.cause = sym (c.in-Err.ensures.answer ∙ ap reading (take_rest bytes at)) in
     record {
       value = ap (tested at (length bytes - at)) (sym was) ∙ test_first reading bytes at c.requires none;
-      takes-some = (omega (arith, c.requires), omega (arith, c.requires));
-      keeps-meaning = c.in-Err.ensures.keeps-meaning;
-      keeps-reading = c.in-Err.ensures.keeps-reading;
+      takes_some = (omega (arith, c.requires), omega (arith, c.requires));
+      keeps_meaning = c.in-Err.ensures.keeps_meaning;
+      keeps_reading = c.in-Err.ensures.keeps_reading;
     }

@@ -1,12 +1,11 @@
-use Rattle.std.proofs.Common.{◌≡◌, ℕ, ◌+◌, ◌-◌, ◌*◌, ◌%◌, ◌^◌, ◌<◌, ◌≤◌, true, List, get_or, sym, refl, ap, ◌∙◌, subst, arith}
+use Rattle.std.proofs.Common.{◌≡◌, ℕ, ◌+◌, ◌-◌, ◌*◌, ◌%◌, ◌^◌, ◌<◌, true, List, sym, refl, ap, ◌∙◌, subst, arith}
 use Rattle.std.proofs.lemmas.Nat.{one_shl}
 use Rattle.pattern.specs.declared.node.Node.{Node}
-use Rattle.pattern.specs.declared.node.Node.TheVariants.{Test, Seq, Or, Star, Plus, Opt, Tag}
-use Rattle.pattern.specs.declared.positions.Edges.{Edges}
+use Rattle.pattern.specs.declared.node.Node.TheVariants.{Test, Seq, Or, Star, Plus, Opt}
 use Rattle.pattern.specs.Expressions.{Expr}
 use Rattle.pattern.specs.Positions.{size, numbered}
 use Rattle.pattern.specs.Trees.{node, Stands}
-use Rattle.pattern.specs.Gathering.{Numerable, Gathered}
+use Rattle.pattern.specs.Gathering.{Numerable}
 use Rattle.pattern.proofs.Gathers.{view, test_number, part, two_parts, gathered_test, gathered_seq, gathered_either, gathered_star, gathered_plus, gathered_opt, gathered_tag, same_gathered, same_edges}
 use Rattle.pattern.proofs.positions.+gather.Goals as goal
 
@@ -27,11 +26,11 @@ choice_parts ns k a b r h =
 inner_part : (ns : List Node) (k a : ℕ) (r : Numerable ns k) (f : Expr) → a < k → Stands ns a f → (e : Expr) → r.expr ≡ e → size e ≡ size f → (numbered e r.low ≡ true → numbered f r.low ≡ true) → (a < k) × Numerable ns a
 inner_part ns k a r f l s e is z o = (l, part ns k r a f l s (sym (ap size is ∙ z)) (o (subst (λ x. numbered x r.low ≡ true) is r.in_order)))
 
-pub overflow-sub-position : goal.overflow-sub-position
-overflow-sub-position t c = let b = test_number c.args.nodes.now c.args.k c.requires c.in-Test.n c.in-Test.is in omega arith
+pub overflow_sub-position : goal.overflow_sub-position
+overflow_sub-position t c = let b = test_number c.args.nodes.now c.args.k c.requires c.in-Test.n c.in-Test.is in omega arith
 
-pub overflow-shl-position : goal.overflow-shl-position
-overflow-shl-position t c = let b = test_number c.args.nodes.now c.args.k c.requires c.in-Test.n c.in-Test.is in omega arith
+pub overflow_shl-position : goal.overflow_shl-position
+overflow_shl-position t c = let b = test_number c.args.nodes.now c.args.k c.requires c.in-Test.n c.in-Test.is in omega arith
 
 pub gather-left-requires : goal.gather-left-requires
 gather-left-requires t c = let p = row_parts c.args.nodes.now c.args.k _ _ c.requires c.in-Seq.is in (omega (arith, c.decreases, p.0), p.2)
@@ -81,7 +80,7 @@ returns-in-Test t c = λ e s.
 pub returns-in-Seq : goal.returns-in-Seq
 returns-in-Seq t c = λ e s.
     let v = view c.args.nodes.now c.args.k (Seq c.in-Seq.a c.in-Seq.b) s c.in-Seq.is in
-    same_gathered v.2 (gathered_seq (c.gather-left.ensures v.0 v.5) (c.gather-right.ensures v.1 v.6) c.link.ensures c.in-row.ensures)
+    same_gathered v.2 (gathered_seq (c.gather-left.ensures v.0 v.5) (c.gather-right.ensures v.1 v.6) c.link.ensures c.in_row.ensures)
 
 pub returns-in-Or : goal.returns-in-Or
 returns-in-Or t c = λ e s.
@@ -101,7 +100,7 @@ returns-in-Plus t c = λ e s.
 pub returns-in-Opt : goal.returns-in-Opt
 returns-in-Opt t c = λ e s.
     let v = view c.args.nodes.now c.args.k (Opt c.in-Opt.a) s c.in-Opt.is in
-    same_gathered v.1 (same_edges c.or-none-in-Opt.ensures (gathered_opt (c.gather-inner-in-Opt.ensures v.0 v.3)))
+    same_gathered v.1 (same_edges c.or_none-in-Opt.ensures (gathered_opt (c.gather-inner-in-Opt.ensures v.0 v.3)))
 
 pub returns-in-Tag : goal.returns-in-Tag
 returns-in-Tag t c = λ e s.

@@ -1,5 +1,4 @@
-use Rattle.std.proofs.Common.{◌≡◌, ℕ, zero, suc, ◌+◌, Bool, ◌||◌, get_or, replicate, refl, ap, ◌∙◌}
-use Rattle.pattern.specs.Expressions.{Expr}
+use Rattle.std.proofs.Common.{◌≡◌, ℕ, zero, suc, ◌+◌, ◌||◌, get_or, replicate, refl, ap, ◌∙◌}
 use Rattle.pattern.specs.Positions.{bit, follows}
 use Rattle.pattern.proofs.BitSets.{bit_none}
 use Rattle.pattern.proofs.positions.automaton.Goals as goal

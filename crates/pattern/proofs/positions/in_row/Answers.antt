@@ -1,4 +1,4 @@
-use Rattle.std.proofs.Common.{◌≡◌, ℕ, Bool, cond, ◌||◌, sym, refl, ap, ◌∙◌}
+use Rattle.std.proofs.Common.{◌≡◌, cond, ◌||◌, sym, refl, ap, ◌∙◌}
 use Rattle.pattern.specs.Positions.{bit}
 use Rattle.pattern.proofs.BitSets.{bit-or, bit_if}
 use Rattle.pattern.proofs.positions.in_row.Goals as goal

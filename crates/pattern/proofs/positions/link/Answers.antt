@@ -1,5 +1,5 @@
-use Rattle.std.proofs.Common.{◌≡◌, ℕ, ◌-◌, ◌^◌, ◌<◌, Bool, true, ◌&&◌, ◌||◌, ◌⊎◌, length, get_or, set, sym, ap, ◌∙◌, subst, inl, inr, arith, length-set}
-use lib.Bits.{bit_and, bit_or, and_le_r}
+use Rattle.std.proofs.Common.{◌-◌, ◌^◌, ◌<◌, ◌&&◌, length, get_or, set, sym, ◌∙◌, subst, inl, inr, arith, length-set}
+use lib.Bits.{bit_or, and_le_r}
 use lib.Count.{count_trailing_zeros}
 use Rattle.automaton.specs.Bit.{In}
 use Rattle.automaton.proofs.Bits.{in_and, in_zero, low_in, low_below, rest_in}

@@ -1,4 +1,4 @@
-use Rattle.std.proofs.Common.{◌≡◌, ℕ, ◌+◌, ◌*◌, ◌<◌, ◌≤◌, true, length, get_or, Ok, Err, sym, refl, ap, ◌∙◌, subst, arith}
+use Rattle.std.proofs.Common.{◌≡◌, ℕ, ◌+◌, ◌<◌, ◌≤◌, true, length, get_or, Ok, Err, sym, refl, ap, ◌∙◌, subst, arith}
 use Rattle.std.proofs.lemmas.Result.{err_from_is_err_and}
 use Rattle.pattern.specs.declared.fault.Fault.TheVariants.{LooseBracket}
 use Rattle.pattern.specs.declared.reader.Part.{Part}
@@ -18,13 +18,13 @@ use Rattle.pattern.proofs.reader.parse.Goals as goal
 pub group-requires : goal.group-requires
 group-requires c = (ready_start (source c.args.tokens.now c.args.end) c.requires _ refl refl refl refl refl, omega arith)
 
-pub returns-in-err-whole : goal.returns-in-err-whole
-returns-in-err-whole c =
-    let p = err_from_is_err_and c.from-residual.result c.from-residual.ensures.1 in rw (p.1, p.2) (sym (whole_scan (fault c.in-err-whole.ensures)))
+pub returns-in_err-whole : goal.returns-in_err-whole
+returns-in_err-whole c =
+    let p = err_from_is_err_and c.from_residual.result c.from_residual.ensures.1 in rw (p.1, p.2) (sym (whole_scan (fault c.in_err-whole.ensures)))
 
-pub returns-then-not-end-at : goal.returns-then-not-end-at
-returns-then-not-end-at c =
-    let w = whole_scan (loose c.in-ok-whole.ensures.reads (sym c.if-not-end-at.ensures)) in
+pub returns-then-not-end_at : goal.returns-then-not-end_at
+returns-then-not-end_at c =
+    let w = whole_scan (loose c.in_ok-whole.ensures.reads (sym c.if-not-end_at.ensures)) in
     ap (λ t. Err (LooseBracket t.offset)) c.peek-behind.ensures ∙ sym w
 
 -- what was read: its expression is that of the table, and its tests are numbered from 1
@@ -48,40 +48,28 @@ module _ {s : Source} {A r : Reader} {k : Part} (small : length s.list ≤ 120) 
   numerable = record { in_table = room; expr = d.expr; stands = d.means.stands; low = 1; from_one = omega arith; to_64 = omega (arith, counted, few_tests d.kept.noted); in_order = in_order }
 
 pub automaton-machine-requires : goal.automaton-machine-requires
-automaton-machine-requires c = numerable c.requires refl refl c.in-ok-whole.ensures
+automaton-machine-requires c = numerable c.requires refl refl c.in_ok-whole.ensures
 
-pub invariant-of-result : goal.invariant-of-result
-invariant-of-result c =
-    let d = c.in-ok-whole.ensures in
+pub invariant_of-result : goal.invariant_of-result
+invariant_of-result c =
+    let d = c.in_ok-whole.ensures in
     let e = sym (tree_is c.requires refl refl d) in
     let p = c.automaton-machine.ensures d.expr d.means.stands in
-    let at : (P : Expr → Type 0) → P d.expr → P (tree 240 c.group.new.self.nodes c.in-ok-whole.whole.root) = λ P x. subst P e x in (
-      few_tests d.kept.noted,
-      (
-        at (λ x. size x ≡ c.group.new.self.tests) (counted c.requires refl refl d),
-        (
-          at (λ x. numbered x 1 ≡ true) (in_order c.requires refl refl d),
-          (
-            at (λ x. c.automaton-machine.result.nullable ≡ has_empty x) p.empty,
-            (
-              at (λ x. (i : ℕ) → bit c.automaton-machine.result.first i ≡ begins x (i + 1)) p.first,
-              (
-                at (λ x. (i : ℕ) → bit c.automaton-machine.result.last i ≡ ends x (i + 1)) p.last,
-                (
-                  at (λ x. (i : ℕ) → (j : ℕ) → i < 64 → bit (get_or c.automaton-machine.result.follow i 0) j ≡ follows x (i + 1) (j + 1)) p.follow,
-                  tt,
-                ),
-              ),
-            ),
-          ),
-        ),
-      ),
-    )
+    let at : (P : Expr → Type 0) → P d.expr → P (tree 240 c.group.new.self.nodes c.in_ok-whole.whole.root) = λ P x. subst P e x in
+    record {
+      few = few_tests d.kept.noted;
+      counted = at (λ x. size x ≡ c.group.new.self.tests) (counted c.requires refl refl d);
+      ordered = at (λ x. numbered x 1 ≡ true) (in_order c.requires refl refl d);
+      empty = at (λ x. c.automaton-machine.result.nullable ≡ has_empty x) p.empty;
+      beginnings = at (λ x. (i : ℕ) → bit c.automaton-machine.result.first i ≡ begins x (i + 1)) p.first;
+      endings = at (λ x. (i : ℕ) → bit c.automaton-machine.result.last i ≡ ends x (i + 1)) p.last;
+      followings = at (λ x. (i : ℕ) → (j : ℕ) → i < 64 → bit (get_or c.automaton-machine.result.follow i 0) j ≡ follows x (i + 1) (j + 1)) p.follow;
+    }
 
 pub returns : goal.returns
 returns c =
-    let d = c.in-ok-whole.ensures in
+    let d = c.in_ok-whole.ensures in
     let k = d.kept in
     let n = k.noted in
-    let w = whole_scan (ended d.reads (sym c.if-not-end-at.ensures)) in
+    let w = whole_scan (ended d.reads (sym c.if-not-end_at.ensures)) in
     ap Ok (same_syntax (stands_tree d.means.stands 240 (omega (arith, k.below, k.room, k.fits, c.requires))) n.codes_are n.tags_are) ∙ sym w

@@ -1,4 +1,4 @@
-use Rattle.std.proofs.Common.{◌≡◌, ℕ, ◌<◌, ◌≤◌, Bool, true, cond, ltb, leb, List, length, get_or, Some, None, Ok, Err, Option, Result, sym, refl, ap, ◌∙◌, rules}
+use Rattle.std.proofs.Common.{◌≡◌, ℕ, ◌<◌, ◌≤◌, cond, leb, List, get_or, Some, None, Ok, Err, Result, sym, ap, ◌∙◌, rules}
 use borrow.Author.Tests.{lt-true, le-true}
 use Rattle.pattern.specs.declared.kept.Pattern.{Pattern}
 use Rattle.pattern.specs.Expressions.{Syntax}
@@ -18,8 +18,8 @@ answered places place symbols p few is short =
     ∙ ap (λ h. elim (held h) as (λ _. Result Syntax Refusal) [ None ↦ Err PlaceBare | Some x ↦ cond (leb symbols 160) (Ok x) (Err LineTooLong) ]) is
     ∙ ap (λ b. cond b (Ok (syntax p)) (Err LineTooLong)) (sym (le-true symbols 160 short))
 
-pub returns-else-symbols-gt-MOST-SYMBOLS : goal.returns-else-symbols-gt-MOST-SYMBOLS
-returns-else-symbols-gt-MOST-SYMBOLS g c =
+pub returns-else-symbols-gt-MOST_SYMBOLS : goal.returns-else-symbols-gt-MOST_SYMBOLS
+returns-else-symbols-gt-MOST_SYMBOLS g c =
     let few : c.args.place < 10 = search rules in
     let is : get_or c.args.self.now.places c.args.place Bare ≡ Filed c.in-Filed.pattern = search rules in
-    record { short = c.if-symbols-gt-MOST-SYMBOLS.false; answer = answered c.args.self.now.places c.args.place c.args.symbols c.in-Filed.pattern few is c.if-symbols-gt-MOST-SYMBOLS.false }
+    record { short = c.if-symbols-gt-MOST_SYMBOLS.false; answer = answered c.args.self.now.places c.args.place c.args.symbols c.in-Filed.pattern few is c.if-symbols-gt-MOST_SYMBOLS.false }

@@ -1,4 +1,4 @@
-use Rattle.std.proofs.Common.{◌≡◌, ℕ, ◌<◌, Bool, true, cond, ltb, List, length, set, Some, None, Ok, Err, Option, Result, sym, refl, ap, ◌∙◌, subst, rules}
+use Rattle.std.proofs.Common.{◌≡◌, ℕ, ◌<◌, cond, List, length, set, Some, None, Ok, Err, Result, sym, refl, ap, ◌∙◌, subst, rules}
 use borrow.Author.Tests.{lt-true}
 use Rattle.pattern.specs.Expressions.{Syntax}
 use Rattle.pattern.specs.Patterns.{syntax}
@@ -24,16 +24,16 @@ returns g c =
     let reading = g.N.Notation.reading c.args.self.now.notation in
     let places = c.args.self.now.places in
     let bytes = c.args.bytes.now in
-    let e = c.in-ok-pattern.ensures in
-    let x = syntax c.in-ok-pattern.pattern in
+    let e = c.in_ok-pattern.ensures in
+    let x = syntax c.in_ok-pattern.pattern in
     let few : c.args.place < 10 = search rules in
     let bare : held_at places c.args.place ≡ None = search rules in
-    let is : Ok x ≡ filing reading places c.args.place bytes = filed reading places c.args.place bytes x few bare e.pattern-or-first-fault in
+    let is : Ok x ≡ filing reading places c.args.place bytes = filed reading places c.args.place bytes x few bare e.pattern_or_first_fault in
     record {
-      counts-or-refusal = ap (λ n. Ok (n, c.tags.result)) c.tests.ensures ∙ ap (λ n. Ok (length x.codes, n)) c.tags.ensures ∙ ap counts is;
-      pattern-stands-there = let P : Result Syntax Refusal → Type 0 = λ r. FiledAfter r c.args.place places (set places c.args.place (Filed c.in-ok-pattern.pattern)) in subst P is (c.in-ok-pattern.pattern, refl, refl);
-      exactly-where-it-may = record { one_of_ten = few; bare = bare; lawful = (x, e.exactly-what-the-grammar-derives.derivable) };
-      asks-only-where-it-may-file = λ no. absurd (no (record { one_of_ten = few; bare = bare; not_too_long = e.exactly-what-the-grammar-derives.derivable.not_too_long }));
-      keeps-meaning = e.keeps-meaning;
-      keeps-reading = e.keeps-reading;
+      counts_or_refusal = ap (λ n. Ok (n, c.tags.result)) c.tests.ensures ∙ ap (λ n. Ok (length x.codes, n)) c.tags.ensures ∙ ap counts is;
+      pattern_stands_there = let P : Result Syntax Refusal → Type 0 = λ r. FiledAfter r c.args.place places (set places c.args.place (Filed c.in_ok-pattern.pattern)) in subst P is (c.in_ok-pattern.pattern, refl, refl);
+      exactly_where_it_may = record { one_of_ten = few; bare = bare; lawful = (x, e.exactly_what_the_grammar_derives.derivable) };
+      asks_only_where_it_may_file = λ no. absurd (no (record { one_of_ten = few; bare = bare; not_too_long = e.exactly_what_the_grammar_derives.derivable.not_too_long }));
+      keeps_meaning = e.keeps_meaning;
+      keeps_reading = e.keeps_reading;
     }

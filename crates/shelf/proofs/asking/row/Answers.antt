@@ -1,4 +1,4 @@
-use Rattle.std.proofs.Common.{ℕ, ◌-◌, ◌*◌, ◌%◌, ◌^◌, Bool, length, get_or, sym, ap, ◌∙◌, subst}
+use Rattle.std.proofs.Common.{ℕ, ◌-◌, ◌*◌, ◌%◌, ◌^◌, Bool, length, get_or, sym, subst}
 use lib.Bits.{bit_or}
 use Rattle.shelf.proofs.Rowing.{RowFrom, row_of_none, row_further, row_of_all}
 use Rattle.shelf.proofs.asking.row.Goals as goal

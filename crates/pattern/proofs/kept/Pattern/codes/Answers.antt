@@ -1,4 +1,4 @@
-use Rattle.std.proofs.Common.{◌≡◌, ℕ, ◌-◌, ◌≤◌, length, take, ap, arith, length-take}
+use Rattle.std.proofs.Common.{◌≡◌, ◌-◌, take, ap, arith, length-take}
 use Rattle.pattern.proofs.kept.Pattern.codes.Goals as goal
 
 pub returns : goal.returns

@@ -1,4 +1,4 @@
-use Rattle.std.proofs.Common.{◌≡◌, ℕ, ◌+◌, ◌<◌, length, sym, refl, ap, ◌∙◌, arith}
+use Rattle.std.proofs.Common.{◌≡◌, ◌+◌, ◌<◌, length, sym, refl, ap, ◌∙◌, arith}
 use Rattle.pattern.specs.declared.fault.Fault.TheVariants.{RepeatedTag}
 use Rattle.pattern.specs.declared.token.Kind.{Kind}
 use Rattle.pattern.specs.Expressions.{star, plus, opt}
@@ -22,12 +22,12 @@ returns-then-part-2 c = λ e m.
     let g = c.repeats.invariant.1 e m in
     faulted s i c.peek-token.ensures RepeatedTag (g.onward _ (repeats_plus_tag (kind_is s i c.peek-token.ensures c.in-Plus.is) (sym g.means.mark ∙ c.if-part-2.true)))
 
-pub returns-in-default : goal.returns-in-default
-returns-in-default c = (
+pub returns-in_default : goal.returns-in_default
+returns-in_default c = (
   c.repeats.invariant.0,
   λ e m.
       let g = c.repeats.invariant.1 e m in
-      record { expr = g.expr; reads = g.onward _ (repeats_end (no_repeat _ _ (ap (λ t. t.kind) c.peek-token.ensures) c.in-default.not-Star c.in-default.not-Plus c.in-default.not-Opt)); means = g.means },
+      record { expr = g.expr; reads = g.onward _ (repeats_end (no_repeat _ _ (ap (λ t. t.kind) c.peek-token.ensures) c.in_default.not-Star c.in_default.not-Plus c.in_default.not-Opt)); means = g.means },
 )
 
 before-end : (c : goal.Joined-token) → c.repeats.self.pos < length c.args.tokens.now

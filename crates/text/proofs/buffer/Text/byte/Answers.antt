@@ -1,4 +1,4 @@
-use Rattle.std.proofs.Common.{◌+◌, ◌<◌, [], ◌∷◌, ◌++◌, length, sym, ◌∙◌, arith, length-append, length-take}
+use Rattle.std.proofs.Common.{◌<◌, [], ◌∷◌, ◌++◌, length, sym, ◌∙◌, arith, length-append, length-take}
 use Rattle.std.proofs.lemmas.List.{take_more_set, take_all, take_at}
 use Rattle.text.specs.Texts.{written}
 use Rattle.text.proofs.buffer.Text.byte.Goals as goal

@@ -1,4 +1,4 @@
-use Rattle.std.proofs.Common.{◌≡◌, replicate, subst, arith}
+use Rattle.std.proofs.Common.{subst}
 use Rattle.std.proofs.lemmas.List.{replicate_more}
 use Rattle.text.specs.Texts.{Adds}
 use Rattle.text.proofs.Chains.{◌then◌, nothing}
@@ -9,8 +9,3 @@ loop-init c = nothing _
 
 pub loop-preserved : goal.loop-preserved
 loop-preserved c = subst (λ bs. Adds c.args.self.now bs c.byte.new.self) (replicate_more c.loop.counter c.args.byte) (c.loop.invariant then c.byte.ensures)
-
-pub returns : goal.returns
-returns c =
-    let all : c.loop.counter ≡ c.args.n = omega arith in
-    subst (λ n. Adds c.args.self.now (replicate n c.args.byte) c.loop.self) all c.loop.invariant

@@ -1,6 +1,4 @@
-use Rattle.std.proofs.Common.{[], ◌∷◌, refl, subst, arith}
-use Rattle.std.proofs.lemmas.List.{take_all}
-use Rattle.text.specs.Texts.{Adds}
+use Rattle.std.proofs.Common.{[], ◌∷◌, refl, arith}
 use Rattle.text.proofs.Chains.{nothing, element}
 use Rattle.text.proofs.buffer.Text.text.Goals as goal
 
@@ -9,6 +7,3 @@ loop-b-init c = nothing _
 
 pub loop-b-preserved : goal.loop-b-preserved
 loop-b-preserved c = element (λ bs. bs) (λ b. b ∷ []) (λ bs b. refl) c.args.bytes.now c.loop-b.b-index 0 (omega arith) c.loop-b.invariant c.byte.ensures
-
-pub returns : goal.returns
-returns c = subst (λ bs. Adds c.args.self.now bs c.loop-b.self) (take_all c.loop-b.b-index c.args.bytes.now (omega arith)) c.loop-b.invariant

@@ -1,16 +1,11 @@
 -- Sets of the tests that admit a symbol.
 use Rattle.std.proofs.Common.{◌≡◌, ℕ, zero, suc, ◌+◌, ◌-◌, ◌*◌, ◌/◌, ◌%◌, ◌^◌, ◌<◌, ◌≤◌, Bool, true, false, ◌&&◌, eqb, ltb, List, [], ◌∷◌, ◌++◌, length, sym, refl, ap, ◌∙◌, subst, inl, inr, arith}
 use lib.Bits.{bit_or}
-use Rattle.std.proofs.lemmas.Nat.{pow_pos, pow-add, shr-shr, div-mul-add, shl_whole, or_shifted}
+use Rattle.std.proofs.lemmas.Nat.{pow-add, shr-shr, div-mul-add, shl_whole, or_shifted}
 use Rattle.std.proofs.lemmas.Bool.{lt-ltb, le-ltb, eq-eqb, ne_eqb, cases_lt}
 use mir.Val.{bool_byte}
 use Rattle.automaton.specs.Bit.{bit}
-use Rattle.automaton.proofs.BitTests.{bit_none}
 use Rattle.asking.specs.RowTables.{RowOf, RowsOf}
-
--- no test
-row_none : (p : ℕ → Bool) → RowOf p 0 0
-row_none p k = bit_none k ∙ sym (ap (λ b. b && p k) (le-ltb k 0 (omega arith)))
 
 byte_small : (b : Bool) → bool_byte b < 2
 byte_small true = omega arith
@@ -44,11 +39,6 @@ row_before p n row r (suc k) =
 abbrev pub RowFrom : (ℕ → Bool) → ℕ → ℕ → ℕ → Type 0
 RowFrom p n k row = (k ≤ n) × (row < 2 ^ (n - k)) × RowOf (λ j. p (j + k)) (n - k) row
 
-pub row_of_none : (p : ℕ → Bool) (n : ℕ) → RowFrom p n n 0
-row_of_none p n =
-    let z : n - n ≡ 0 = omega arith in
-    (omega arith, pow_pos (n - n), subst (λ m. RowOf (λ j. p (j + n)) m 0) (sym z) (row_none (λ j. p (j + n))))
-
 -- one test further down
 pub row_further : (p : ℕ → Bool) (n k row : ℕ) (b : Bool) → n ≤ 64 → 0 < k → b ≡ p (k - 1) → RowFrom p n k row → RowFrom p n (k - 1) (bit_or ((row * 2) % 2 ^ 64) (bool_byte b))
 row_further p n k row b few up is (h, small, r) =
@@ -60,10 +50,6 @@ row_further p n k row b few up is (h, small, r) =
     let rest : RowOf (λ j. q (j + 1)) m row = λ j. r j ∙ ap (λ i. ltb j m && p i) (omega arith) in
     let same : row * 2 + bool_byte (q 0) ≡ bit_or ((row * 2) % 2 ^ 64) (bool_byte b) = ap (λ x. row * 2 + bool_byte x) (ap p (omega arith) ∙ sym is) ∙ sym sum in
     (omega arith, omega (arith, sum, power, small, byte_small b), subst (λ x. RowOf q (n - (k - 1)) x) same (subst (λ i. RowOf q i (row * 2 + bool_byte (q 0))) (sym one) (row_before q m row rest)))
-
--- all tests
-pub row_of_all : (p : ℕ → Bool) (n k row : ℕ) → k ≤ 0 → RowFrom p n k row → RowOf p n row
-row_of_all p n k row low (h, small, r) j = r j ∙ ap (λ m. ltb j m && p (j + k)) (omega arith) ∙ ap (λ i. ltb j n && p i) (omega arith)
 
 -- one symbol more
 pub rows_more : {S : Type 0} (p : ℕ → S → Bool) (n : ℕ) (line : List S) (rows : List ℕ) (s : S) (row : ℕ) → RowsOf p n line rows → RowOf (λ k. p k s) n row → RowsOf p n (line ++ (s ∷ [])) (rows ++ (row ∷ []))

@@ -1,5 +1,5 @@
 -- What follows from the laws of a ranking.
-use Rattle.std.proofs.Common.{◌≡◌, ℕ, true, false, ◌⊎◌, Ordering, Less, Equal, Greater, sym, refl, ap, ◌∙◌, subst, inl, inr, true≢false}
+use Rattle.std.proofs.Common.{◌≡◌, ℕ, true, ◌⊎◌, Ordering, Less, Equal, Greater, sym, refl, ap, ◌∙◌, subst, inl, inr, true≢false}
 use Rattle.std.specs.Ordering.{ordering_reverse, is_le, is_ge}
 use Rattle.ranking.specs.Laws.{Near, Lawful}
 

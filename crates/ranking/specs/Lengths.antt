@@ -1,10 +1,10 @@
 -- The lengths of the tags, one by one, and how they compare.
-use Rattle.std.specs.Prelude.{◌≡◌, ℕ, zero, suc, ◌+◌, ◌-◌, ◌/◌, ◌%◌, ◌^◌, ◌<◌, ◌≤◌, true, false, cond, ◌⊎◌, List, [], ◌∷◌, length, replicate, nat_lt, slice_index, refl}
+use Rattle.std.specs.Prelude.{◌≡◌, ℕ, zero, suc, ◌+◌, ◌/◌, ◌%◌, ◌^◌, ◌<◌, ◌≤◌, true, cond, ◌⊎◌, List, [], ◌∷◌, length, replicate, nat_lt, slice_index, refl}
 use Rattle.std.specs.declared.cmp.Ordering.TheVariants.{Less, Equal, Greater}
 use Rattle.std.specs.declared.cmp.Ordering.{Ordering}
 use Rattle.std.proofs.Common.{sym, ap, ◌∙◌, true≢false, inl, inr, arith, one-add}
-use Rattle.std.specs.Ordering.{ordering_reverse, is_ge, ordering_then, MatchOrdering}
-use Rattle.std.specs.Cmp.Lexicographic.{Lex}
+use Rattle.std.specs.Ordering.{ordering_reverse, is_ge, ordering_then, nat_cmp}
+use Rattle.std.specs.Cmp.Lexicographic.{slice_cmp}
 use Rattle.std.proofs.lemmas.Nat.{shr-shr}
 use Rattle.std.proofs.lemmas.List.{get_or-replicate, get_or_past, length-replicate}
 use Rattle.std.proofs.lemmas.Bool.{cases_lt, cases_order, lt-ltb, le-ltb}
@@ -118,19 +118,15 @@ transitive (x ∷ xs) (y ∷ ys) (z ∷ zs) h g =
     (heads x y (first_difference xs ys) h) (heads y z (first_difference ys zs) g))
 
 -- ---- what the comparison of two arrays answers
-told : (x y : ℕ) (xs ys : List ℕ) (k r : Ordering) → MatchOrdering k (x < y) (x ≡ y) (y < x) → MatchOrdering k (r ≡ Less) (r ≡ first_difference xs ys) (r ≡ Greater) → r ≡ ordering_then (ordered x y) (first_difference xs ys)
-told x y xs ys Less r h e = e ∙ sym (ap (λ o. ordering_then o (first_difference xs ys)) (lower x y h))
-told x y xs ys Equal r h e = e ∙ sym (ap (λ o. ordering_then o (first_difference xs ys)) (same x y h))
-told x y xs ys Greater r h e = e ∙ sym (ap (λ o. ordering_then o (first_difference xs ys)) (higher x y h))
+told : (x y : ℕ) → nat_cmp x y ≡ ordered x y
+told x y = elim (cases_order x y) [
+  | inl e ↦ grind (arith, same x y e)
+  | inr (inl h) ↦ grind (arith, lower x y h)
+  | inr (inr h) ↦ grind (arith, higher x y h)
+]
 
-kept : (k r : Ordering) (P Q : Type 0) → (P → Q) → MatchOrdering k (r ≡ Less) P (r ≡ Greater) → MatchOrdering k (r ≡ Less) Q (r ≡ Greater)
-kept Less r P Q f h = h
-kept Equal r P Q f h = f h
-kept Greater r P Q f h = h
-
-pub answered : (xs ys : List ℕ) (r : Ordering) → Lex (λ x y r. MatchOrdering r (x < y) (x ≡ y) (y < x)) xs ys r → r ≡ first_difference xs ys
-answered [] [] r h = h
-answered [] (y ∷ ys) r h = h
-answered (x ∷ xs) [] r h = h
-answered (x ∷ xs) (y ∷ ys) r h =
-    told x y xs ys h.0 r h.1 (kept h.0 r _ _ (answered xs ys r) h.2)
+pub answered : (xs ys : List ℕ) → slice_cmp nat_cmp xs ys ≡ first_difference xs ys
+answered [] [] = refl
+answered [] (y ∷ ys) = refl
+answered (x ∷ xs) [] = refl
+answered (x ∷ xs) (y ∷ ys) = ap (λ o. ordering_then o (slice_cmp nat_cmp xs ys)) (told x y) ∙ ap (ordering_then (ordered x y)) (answered xs ys)

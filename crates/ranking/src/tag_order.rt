@@ -40,6 +40,7 @@ impl Ranking for TagOrder {
         lengths
     }
 
+    #[tactic(auto, using(crate::specs::Lengths::answered))]
     fn compare(&self, a: &[u8; 8], b: &[u8; 8]) -> Ordering {
         a.cmp(b)
     }

@@ -1,5 +1,5 @@
 -- The choice at the end of the stretch, and what is answered by it.
-use Rattle.std.proofs.Common.{◌≡◌, ℕ, suc, ◌+◌, ◌-◌, ◌*◌, ◌%◌, ◌<◌, ◌≤◌, min, Bool, true, false, ◌&&◌, ltb, List, [], ◌∷◌, reverse, length, get_or, take, drop, set, replicate, Some, Ordering, sym, refl, ap, ◌∙◌, subst, inl, inr, true≢false, arith, ltb-true}
+use Rattle.std.proofs.Common.{◌≡◌, ℕ, suc, ◌+◌, ◌*◌, ◌%◌, ◌<◌, ◌≤◌, min, Bool, true, false, ◌&&◌, ltb, List, [], ◌∷◌, reverse, length, get_or, take, drop, set, replicate, Some, Ordering, sym, refl, ap, ◌∙◌, subst, inl, inr, true≢false, arith, ltb-true}
 use mathlib.Core.List.{reverse-reverse}
 use lib.Bits.{bit_and}
 use Rattle.std.proofs.lemmas.List.{get_or-replicate, get_or_past, get_or-set_same, get_or-set_other, length-replicate, nil_from_length}

@@ -1,4 +1,4 @@
-use Rattle.std.proofs.Common.{◌≡◌, ℕ, ◌+◌, ◌<◌, min, Bool, true, false, List, [], ◌∷◌, ◌++◌, length, get_or, take, sym, ap, ◌∙◌, subst, arith, length-take, take_all}
+use Rattle.std.proofs.Common.{◌≡◌, ℕ, ◌+◌, ◌<◌, min, Bool, true, false, List, [], ◌∷◌, ◌++◌, length, get_or, take, sym, ap, ◌∙◌, subst, arith, length-take}
 use Rattle.std.proofs.lemmas.List.{take_more}
 use Rattle.automaton.specs.RowList.{rows_of}
 use Rattle.asking.specs.RowTables.{RowOf, RowsOf}
@@ -16,11 +16,6 @@ next p n line i s before after row h e r q is =
     subst (RowsOf p n (take (i + 1) line)) (sym is)
     (subst (λ l. RowsOf p n l (before ++ (row ∷ []))) (sym (take_more line i s h ∙ ap (λ y. take i line ++ (y ∷ [])) (sym e))) (rows_more p n (take i line) before s row r q))
 
-pub loop-i-init : goal.loop-i-init
-loop-i-init g c =
-    let p : ℕ → _ → Bool = λ k s. g.A.Alphabet.meaning c.args.alphabet.now (get_or c.args.codes.now k 0) s in
-    subst (RowsOf p (min 64 (length c.args.codes.now)) []) (sym c.new-rows.ensures) tt
-
 pub loop-i-preserved : goal.loop-i-preserved
 loop-i-preserved g c =
     let p : ℕ → _ → Bool = λ k s. g.A.Alphabet.meaning c.args.alphabet.now (get_or c.args.codes.now k 0) s in
@@ -28,10 +23,5 @@ loop-i-preserved g c =
     let line = c.args.line.now in
     let i = c.loop-i.i in
     let before = rows_of c.loop-i.rows in
-    let long : length before < 160 = omega (arith, rows_length p n (take i line) before c.loop-i.invariant, length-take i line, c.loop-i-test.true, c.if-line-gt-MOST-SYMBOLS.false) in
+    let long : length before < 160 = omega (arith, rows_length p n (take i line) before c.loop-i.invariant, length-take i line, c.loop-i-test.true, c.if-line-gt-MOST_SYMBOLS.false) in
     next p n line i c.index-line-i.result before (rows_of c.push.new.self) c.row.result c.loop-i-test.true c.index-line-i.is c.loop-i.invariant c.row.ensures (pushed c.push.result before (rows_of c.push.new.self) c.row.result c.push.ensures long)
-
-pub returns : goal.returns
-returns g c =
-    let p : ℕ → _ → Bool = λ k s. g.A.Alphabet.meaning c.args.alphabet.now (get_or c.args.codes.now k 0) s in
-    (c.if-line-gt-MOST-SYMBOLS.false, subst (λ l. RowsOf p (min 64 (length c.args.codes.now)) l (rows_of c.loop-i.rows)) (take_all c.loop-i.i c.args.line.now c.loop-i-test.false) c.loop-i.invariant)

@@ -22,7 +22,7 @@ pub advance-positions-requires : goal.advance-positions-requires
 advance-positions-requires g c =
     let i = c.loop-i.i in
     let pos : 0 < c.loop-i.i = omega (arith, c.if-i-eq0.false) in
-    let short : c.loop-i.i < 160 = omega (arith, c.loop-i-test.true, c.if-symbols-gt-MOST-SYMBOLS.false) in
+    let short : c.loop-i.i < 160 = omega (arith, c.loop-i-test.true, c.if-symbols-gt-MOST_SYMBOLS.false) in
     record {
       room = (omega (arith, c.if-work.false, c.loop-i.auto.work), pos);
       near = cell_near (g.met.R.Ranking.lawful c.args.ranking.now) c.args.tags.now c.fits-tags c.args.automaton.now (may_stand (λ q s. g.A.Alphabet.meaning c.args.alphabet.now (get_or c.args.codes.now q 0) s) (length c.args.codes.now) c.args.stretch.now)
@@ -35,7 +35,7 @@ loop-i-preserved g c =
     let inv = c.loop-i.invariant in
     let row = c.row-row.result in
     let inside : c.loop-i.i < length c.args.stretch.now = c.loop-i-test.true in
-    let short : c.loop-i.i < 160 = omega (arith, inside, c.if-symbols-gt-MOST-SYMBOLS.false) in
+    let short : c.loop-i.i < 160 = omega (arith, inside, c.if-symbols-gt-MOST_SYMBOLS.false) in
     let here : c.loop-i.i < length c.loop-i.back = omega (arith, short, inv.0) in
     let again : c.loop-i.i ≡ c.loop-i.i + 1 - 1 = omega arith in
     let may_of = row_may (λ q s. g.A.Alphabet.meaning c.args.alphabet.now (get_or c.args.codes.now q 0) s) (length c.args.codes.now) c.args.stretch.now i row c.index-stretch-i.result inside c.index-stretch-i.is c.row-row.ensures in
@@ -69,7 +69,7 @@ choose-requires g c =
     let pos : 0 < c.loop-i.i = omega (arith, c.loop-i-test.false, c.loop-i.auto.i-end, c.if-symbols-eq0.false) in
     let n-is : length c.args.stretch.now ≡ c.loop-i.i - 1 + 1 = omega (arith, c.loop-i-test.false, c.loop-i.auto.i-end, c.if-symbols-eq0.false) in
     let i-is : length c.args.stretch.now ≡ c.loop-i.i = omega (arith, c.loop-i-test.false, c.loop-i.auto.i-end, c.if-symbols-eq0.false) in
-    let short : c.loop-i.i - 1 ≤ 159 = omega (arith, c.if-symbols-gt-MOST-SYMBOLS.false, n-is) in
+    let short : c.loop-i.i - 1 ≤ 159 = omega (arith, c.if-symbols-gt-MOST_SYMBOLS.false, n-is) in
     let from : c.half.result ≡ 64 * ((c.loop-i.i - 1) % 2) = c.half.ensures ∙ ap (λ n. 64 * ((n - 1) % 2)) i-is in
     let cells = c.loop-i.invariant.2 pos in
     record {
@@ -80,20 +80,20 @@ choose-requires g c =
           (i - 1) c.loop-i.live (64 * ((i - 1) % 2)) c.loop-i.work c.loop-i.back short cells 160 (omega (arith, short)) p (in_and {x = c.loop-i.live} {y = c.args.automaton.now.last} e).0);
     }
 
-pub overflow-cast-last : goal.overflow-cast-last
-overflow-cast-last g c =
+pub overflow_cast-last : goal.overflow_cast-last
+overflow_cast-last g c =
     let pos : 0 < c.loop-i.i = omega (arith, c.loop-i-test.false, c.loop-i.auto.i-end, c.if-symbols-eq0.false) in
     let cells = c.loop-i.invariant.2 pos in
     let k = in_and {x = c.loop-i.live} {y = c.args.automaton.now.last} c.in-Some.ensures.candidate in
     omega (arith, (cells.leads c.in-Some.last k.0).front.0)
 
-pub walk-back-requires : goal.walk-back-requires
-walk-back-requires g c =
+pub walk_back-requires : goal.walk_back-requires
+walk_back-requires g c =
     let pos : 0 < c.loop-i.i = omega (arith, c.loop-i-test.false, c.loop-i.auto.i-end, c.if-symbols-eq0.false) in
     let cells = c.loop-i.invariant.2 pos in
     let k = in_and {x = c.loop-i.live} {y = c.args.automaton.now.last} c.in-Some.ensures.candidate in
     record {
-      room = ((cells.leads c.in-Some.last k.0).front.0, omega (arith, c.if-symbols-gt-MOST-SYMBOLS.false), omega (arith, c.if-trail-symbols.false));
+      room = ((cells.leads c.in-Some.last k.0).front.0, omega (arith, c.if-symbols-gt-MOST_SYMBOLS.false), omega (arith, c.if-trail-symbols.false));
       low = c.loop-i.invariant.1;
     }
 
@@ -103,13 +103,13 @@ returns-in-Some g c =
     let pos : 0 < c.loop-i.i = omega (arith, c.loop-i-test.false, c.loop-i.auto.i-end, c.if-symbols-eq0.false) in
     let n-is : length c.args.stretch.now ≡ c.loop-i.i - 1 + 1 = omega (arith, c.loop-i-test.false, c.loop-i.auto.i-end, c.if-symbols-eq0.false) in
     let i-is : length c.args.stretch.now ≡ c.loop-i.i = omega (arith, c.loop-i-test.false, c.loop-i.auto.i-end, c.if-symbols-eq0.false) in
-    let short : c.loop-i.i - 1 ≤ 159 = omega (arith, c.if-symbols-gt-MOST-SYMBOLS.false, n-is) in
+    let short : c.loop-i.i - 1 ≤ 159 = omega (arith, c.if-symbols-gt-MOST_SYMBOLS.false, n-is) in
     let from : c.half.result ≡ 64 * ((c.loop-i.i - 1) % 2) = c.half.ensures ∙ ap (λ n. 64 * ((n - 1) % 2)) i-is in
     let cells = c.loop-i.invariant.2 pos in
-    found (g.R.Ranking.start c.args.ranking.now) (g.R.Ranking.stepped c.args.ranking.now) (g.R.Ranking.compared c.args.ranking.now) c.args.automaton.now (λ q s. g.A.Alphabet.meaning c.args.alphabet.now (get_or c.args.codes.now q 0) s) (length c.args.codes.now) c.args.tags.now c.args.stretch.now (length c.args.work.now) c.args.trail.now (omega (arith, c.if-symbols-gt-MOST-SYMBOLS.false), omega (arith, c.if-trail-symbols.false), omega (arith, c.if-work.false))
+    found (g.R.Ranking.start c.args.ranking.now) (g.R.Ranking.stepped c.args.ranking.now) (g.R.Ranking.compared c.args.ranking.now) c.args.automaton.now (λ q s. g.A.Alphabet.meaning c.args.alphabet.now (get_or c.args.codes.now q 0) s) (length c.args.codes.now) c.args.tags.now c.args.stretch.now (length c.args.work.now) c.args.trail.now (omega (arith, c.if-symbols-gt-MOST_SYMBOLS.false), omega (arith, c.if-trail-symbols.false), omega (arith, c.if-work.false))
     (g.met.R.Ranking.lawful c.args.ranking.now) c.fits-tags (i - 1) c.loop-i.live (64 * ((i - 1) % 2)) c.loop-i.work c.loop-i.back short n-is cells
     c.in-Some.last (subst (λ f. Pick (g.R.Ranking.compared c.args.ranking.now) (λ p. get_or c.loop-i.work (f + p) (g.R.Ranking.start c.args.ranking.now)) (In (bit_and c.loop-i.live c.args.automaton.now.last)) c.in-Some.last) from c.in-Some.ensures)
-    c.walk-back.new.trail c.walk-back.ensures.written c.walk-back.ensures.rest
+    c.walk_back.new.trail c.walk_back.ensures.written c.walk_back.ensures.rest
 
 pub returns-in-None : goal.returns-in-None
 returns-in-None g c =
@@ -117,12 +117,12 @@ returns-in-None g c =
     let pos : 0 < c.loop-i.i = omega (arith, c.loop-i-test.false, c.loop-i.auto.i-end, c.if-symbols-eq0.false) in
     let n-is : length c.args.stretch.now ≡ c.loop-i.i - 1 + 1 = omega (arith, c.loop-i-test.false, c.loop-i.auto.i-end, c.if-symbols-eq0.false) in
     let i-is : length c.args.stretch.now ≡ c.loop-i.i = omega (arith, c.loop-i-test.false, c.loop-i.auto.i-end, c.if-symbols-eq0.false) in
-    let short : c.loop-i.i - 1 ≤ 159 = omega (arith, c.if-symbols-gt-MOST-SYMBOLS.false, n-is) in
+    let short : c.loop-i.i - 1 ≤ 159 = omega (arith, c.if-symbols-gt-MOST_SYMBOLS.false, n-is) in
     let from : c.half.result ≡ 64 * ((c.loop-i.i - 1) % 2) = c.half.ensures ∙ ap (λ n. 64 * ((n - 1) % 2)) i-is in
     let cells = c.loop-i.invariant.2 pos in
-    missing (g.R.Ranking.start c.args.ranking.now) (g.R.Ranking.stepped c.args.ranking.now) (g.R.Ranking.compared c.args.ranking.now) c.args.automaton.now (λ q s. g.A.Alphabet.meaning c.args.alphabet.now (get_or c.args.codes.now q 0) s) (length c.args.codes.now) c.args.tags.now c.args.stretch.now (length c.args.work.now) c.args.trail.now (omega (arith, c.if-symbols-gt-MOST-SYMBOLS.false), omega (arith, c.if-trail-symbols.false), omega (arith, c.if-work.false))
+    missing (g.R.Ranking.start c.args.ranking.now) (g.R.Ranking.stepped c.args.ranking.now) (g.R.Ranking.compared c.args.ranking.now) c.args.automaton.now (λ q s. g.A.Alphabet.meaning c.args.alphabet.now (get_or c.args.codes.now q 0) s) (length c.args.codes.now) c.args.tags.now c.args.stretch.now (length c.args.work.now) c.args.trail.now (omega (arith, c.if-symbols-gt-MOST_SYMBOLS.false), omega (arith, c.if-trail-symbols.false), omega (arith, c.if-work.false))
     (g.met.R.Ranking.lawful c.args.ranking.now) c.fits-tags (i - 1) c.loop-i.live (64 * ((i - 1) % 2)) c.loop-i.work c.loop-i.back short n-is cells c.in-None.ensures
 
 pub returns-then-symbols-eq0 : goal.returns-then-symbols-eq0
 returns-then-symbols-eq0 g c =
-    empty (g.R.Ranking.start c.args.ranking.now) (g.R.Ranking.stepped c.args.ranking.now) (g.R.Ranking.compared c.args.ranking.now) c.args.automaton.now (λ q s. g.A.Alphabet.meaning c.args.alphabet.now (get_or c.args.codes.now q 0) s) (length c.args.codes.now) c.args.tags.now c.args.stretch.now (length c.args.work.now) c.args.trail.now (omega (arith, c.if-symbols-gt-MOST-SYMBOLS.false), omega (arith, c.if-trail-symbols.false), omega (arith, c.if-work.false)) c.if-symbols-eq0.true c.args.automaton.now.nullable refl
+    empty (g.R.Ranking.start c.args.ranking.now) (g.R.Ranking.stepped c.args.ranking.now) (g.R.Ranking.compared c.args.ranking.now) c.args.automaton.now (λ q s. g.A.Alphabet.meaning c.args.alphabet.now (get_or c.args.codes.now q 0) s) (length c.args.codes.now) c.args.tags.now c.args.stretch.now (length c.args.work.now) c.args.trail.now (omega (arith, c.if-symbols-gt-MOST_SYMBOLS.false), omega (arith, c.if-trail-symbols.false), omega (arith, c.if-work.false)) c.if-symbols-eq0.true c.args.automaton.now.nullable refl

@@ -31,7 +31,7 @@ higher-requires g c =
     record {
       room = (c.requires.room.0, c.requires.room.1, lowest_below among rest inv.0 pos, in_below c.ranges.among.fits inv.1.candidate.0);
       near_p = c.requires.near (count_trailing_zeros 64 rest) (lowest_in among rest inv.0 pos);
-      near-r = c.requires.near c.loop-rest.best inv.1.candidate.0;
+      near_r = c.requires.near c.loop-rest.best inv.1.candidate.0;
     }
 
 pub loop-rest-preserved : goal.loop-rest-preserved

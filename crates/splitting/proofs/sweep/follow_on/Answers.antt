@@ -27,7 +27,7 @@ offer-requires g c =
     record {
       room = (c.requires.room.0, c.requires.room.1, lowest_below live rest inv.0 pos);
       near_p = c.requires.near (count_trailing_zeros 64 rest) (lowest_in live rest inv.0 pos);
-      near-reached = λ q e.
+      near_reached = λ q e.
           let k = (inv.3.picked q e).candidate in
           (in_below c.ranges.live.fits k.0, c.requires.near (get_or c.loop-rest.previous q 0) k.0);
     }

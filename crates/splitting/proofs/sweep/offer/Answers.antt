@@ -25,11 +25,11 @@ higher-requires g c =
     let inv = c.loop-rest.invariant in
     let pos : 0 < c.loop-rest.rest = omega (arith, c.loop-rest-test.true) in
     let was = sym (inv.2.waiting t (lowest_left c.args.onto rest inv.0 pos)) in
-    let near = c.requires.near-reached t (is_in c.args.reached t c.if-reached-q-eq0.false) in
+    let near = c.requires.near_reached t (is_in c.args.reached t c.if-reached-q-eq0.false) in
     record {
       room = (c.requires.room.0, c.requires.room.1, c.requires.room.2, subst (λ r. r < 64) was near.0);
       near_p = c.requires.near_p;
-      near-r = subst (λ r. Near (g.R.Ranking.start c.args.ranking.now) (g.R.Ranking.stepped c.args.ranking.now) 160 (get_or c.args.work.now (c.args.from + r) (g.R.Ranking.start c.args.ranking.now))) was near.1;
+      near_r = subst (λ r. Near (g.R.Ranking.start c.args.ranking.now) (g.R.Ranking.stepped c.args.ranking.now) 160 (get_or c.args.work.now (c.args.from + r) (g.R.Ranking.start c.args.ranking.now))) was near.1;
     }
 
 pub loop-rest-preserved : goal.loop-rest-preserved

@@ -10,7 +10,7 @@ pub loop-rest-init : goal.loop-rest-init
 loop-rest-init g c = (all_left c.args.reached.now.positions (omega arith), (λ q e n. absurd (n e)), (λ p h. refl))
 
 -- what is known of the position before the lowest that is left
-module _ (g : _) (c : goal.After-p·1 g) where
+module _ (g : _) (c : goal.After-p-1 g) where
   pos : 0 < c.loop-rest.rest
   pos = omega (arith, c.loop-rest-test.true)
 
@@ -24,8 +24,8 @@ module _ (g : _) (c : goal.After-p·1 g) where
   here : c.args.from + get_or c.args.reached.now.previous (count_trailing_zeros 64 c.loop-rest.rest) 0 < length c.loop-rest.work
   here = omega (arith, near.0, c.requires.room.0, c.requires.room.2, c.loop-rest.auto.work)
 
-pub offset-bounds-work-from : goal.offset-bounds-work-from
-offset-bounds-work-from g c =
+pub offset_bounds-work-from : goal.offset_bounds-work-from
+offset_bounds-work-from g c =
     let h : c.args.from + get_or c.args.reached.now.previous (count_trailing_zeros 64 c.loop-rest.rest) 0 < length c.loop-rest.work = here g c in
     search rules
 
@@ -45,8 +45,8 @@ step-requires g c =
     subst (λ m. Near start (g.R.Ranking.stepped c.args.ranking.now) 159 m)
     (sym (get_or_read work (c.args.from + p) c.index-work-from.result here c.index-work-from.is start ∙ inv.2 p near.0)) near.1
 
-pub offset-bounds-work-to : goal.offset-bounds-work-to
-offset-bounds-work-to g c =
+pub offset_bounds-work-to : goal.offset_bounds-work-to
+offset_bounds-work-to g c =
     let pos : 0 < c.loop-rest.rest = omega (arith, c.loop-rest-test.true) in
     let low = lowest_below c.args.reached.now.positions c.loop-rest.rest c.loop-rest.invariant.0 pos in
     let h : c.args.to + count_trailing_zeros 64 c.loop-rest.rest < length c.loop-rest.work = omega (arith, low, c.requires.room.1, c.requires.room.2, c.loop-rest.auto.work) in

@@ -1,4 +1,4 @@
-use Rattle.std.proofs.Common.{◌≡◌, ◌+◌, ◌-◌, ◌*◌, ◌%◌, ◌<◌, ◌≤◌, Bool, length, get_or, sym, refl, ap, ◌∙◌, subst, arith}
+use Rattle.std.proofs.Common.{◌≡◌, ℕ, ◌+◌, ◌-◌, ◌*◌, ◌%◌, ◌<◌, ◌≤◌, Bool, length, get_or, sym, refl, ap, ◌∙◌, subst, arith, rules}
 use lib.Bits.{bit_and}
 use Rattle.std.proofs.lemmas.List.{length-set}
 use Rattle.automaton.specs.Bit.{In}
@@ -11,6 +11,10 @@ use Rattle.splitting.proofs.Optimal.{cell_near, first_cells, next_cells}
 use Rattle.splitting.proofs.Whole.{low_none, low_set, row_may, may_row, cells_as, empty, missing, found}
 use Rattle.splitting.proofs.best_trail.Goals as goal
 use Rattle.splitting.proofs.best_trail.Goals.{then-i-eq0, else-i-eq0}
+
+-- a position that may end a trail is live
+live_one : (x y p : ℕ) → In (bit_and x y) p → In x p
+live_one x y p e = (in_and {x = x} {y = y} e).0
 
 pub loop-i-init : goal.loop-i-init
 loop-i-init g c = (refl, low_none 160 64, λ h. absurd (omega (arith, h)))
@@ -69,21 +73,23 @@ choose-requires-clause-near g c =
     λ p e.
     subst (λ f. Near (g.R.Ranking.start c.args.ranking.now) (g.R.Ranking.stepped c.args.ranking.now) 160 (get_or c.loop-i.work (f + p) (g.R.Ranking.start c.args.ranking.now))) (sym from)
     (cell_near (g.met.R.Ranking.lawful c.args.ranking.now) c.args.tags.now c.fits-tags c.args.automaton.now (may_stand (λ q s. g.A.Alphabet.meaning c.args.alphabet.now (get_or c.args.codes.now q 0) s) (length c.args.codes.now) c.args.stretch.now)
-    (i - 1) c.loop-i.live (64 * ((i - 1) % 2)) c.loop-i.work c.loop-i.back short cells 160 (omega (arith, short)) p (in_and {x = c.loop-i.live} {y = c.args.automaton.now.last} e).0)
+    (i - 1) c.loop-i.live (64 * ((i - 1) % 2)) c.loop-i.work c.loop-i.back short cells 160 (omega (arith, short)) p (search (rules, live_one)))
 
 pub overflow_cast-last : goal.overflow_cast-last
 overflow_cast-last g c =
     let pos : 0 < c.loop-i.i = omega (arith, c.loop-i-test.false, c.loop-i.auto.i-end, c.if-symbols-eq0.false) in
     let cells = c.loop-i.invariant.2 pos in
-    let k = in_and {x = c.loop-i.live} {y = c.args.automaton.now.last} c.in-Some.ensures.candidate in
-    omega (arith, (cells.leads c.in-Some.last k.0).front.0)
+    let e = c.in-Some.ensures.candidate in
+    let k : In c.loop-i.live c.in-Some.last = search (rules, live_one) in
+    omega (arith, (cells.leads c.in-Some.last k).front.0)
 
 pub walk_back-requires-clause-room : goal.walk_back-requires-clause-room
 walk_back-requires-clause-room g c =
     let pos : 0 < c.loop-i.i = omega (arith, c.loop-i-test.false, c.loop-i.auto.i-end, c.if-symbols-eq0.false) in
     let cells = c.loop-i.invariant.2 pos in
-    let k = in_and {x = c.loop-i.live} {y = c.args.automaton.now.last} c.in-Some.ensures.candidate in
-    ((cells.leads c.in-Some.last k.0).front.0, omega (arith, c.if-symbols-gt-MOST_SYMBOLS.false), omega (arith, c.if-trail-symbols.false))
+    let e = c.in-Some.ensures.candidate in
+    let k : In c.loop-i.live c.in-Some.last = search (rules, live_one) in
+    ((cells.leads c.in-Some.last k).front.0, omega (arith, c.if-symbols-gt-MOST_SYMBOLS.false), omega (arith, c.if-trail-symbols.false))
 
 pub returns-in-Some : goal.returns-in-Some
 returns-in-Some g c =

@@ -1,9 +1,9 @@
 -- The entries of a sheet and their parts.
-use Rattle.std.proofs.Common.{◌≡◌, ℕ, zero, suc, ◌+◌, ◌-◌, ◌*◌, ◌<◌, ◌≤◌, Bool, true, false, cond, ◌&&◌, ltb, leb, List, [], ◌∷◌, ◌++◌, length, set, replicate, Some, None, Option, sym, refl, ap, ◌∙◌, subst, append_assoc, append-nil, arith, length-append}
+use Rattle.std.proofs.Common.{◌≡◌, ℕ, zero, suc, ◌+◌, ◌-◌, ◌≤◌, true, ltb, leb, List, [], ◌∷◌, ◌++◌, length, replicate, Some, None, Option, sym, refl, ap, ◌∙◌, append_assoc, arith, length-append}
 use Rattle.std.proofs.lemmas.List.{set_at, length-replicate, replicate-append-replicate}
 use Rattle.std.proofs.lemmas.Bool.{cond-true, le-leb, lt-ltb, and_from}
 use Rattle.sheet.specs.declared.Part.{Part}
-use Rattle.sheet.specs.Entries.{is_tag, with_entry}
+use Rattle.sheet.specs.Entries.{with_entry}
 use Rattle.cue.specs.Records.{parts_from, fits, all_fit}
 
 pub with_entry_lem : (ys zs : List (Option Part)) (old new : Option Part) (tag : ℕ) → tag ≡ length ys + 1 → tag ≤ 8

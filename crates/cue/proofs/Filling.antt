@@ -1,23 +1,18 @@
 -- A buffer of marks and a sheet, as runs and parts come.
-use Rattle.std.proofs.Common.{◌≡◌, ℕ, zero, suc, ◌+◌, ◌-◌, ◌<◌, ◌≤◌, Bool, true, false, cond, ◌&&◌, leb, List, [], ◌∷◌, ◌++◌, length, get_or, take, drop, replicate, Some, None, Ok, Err, Option, Result, sym, refl, ap, ◌∙◌, subst, append_assoc, arith, length-append, take-append-drop}
-use borrow.Rule.Slice.PartMut.{put_mid, post_of}
-use Rattle.std.proofs.lemmas.List.{take_at, take-append-le, drop-append-le, drop-drop, length-take-le, length-drop, length-replicate}
-use Rattle.std.proofs.lemmas.Bool.{leb-true, and_parts, cases_Bool, cond-true, cond-false, le-leb, lt-leb}
+use Rattle.std.proofs.Common.{◌≡◌, ℕ, zero, suc, ◌+◌, ◌-◌, ◌<◌, ◌≤◌, Bool, true, false, cond, ◌&&◌, leb, List, [], ◌∷◌, ◌++◌, length, get_or, take, drop, replicate, Some, Ok, Err, Option, Result, sym, refl, ap, ◌∙◌, subst, append_assoc, arith, length-append, take-append-drop}
+use Rattle.std.proofs.lemmas.List.{take_at, take-append-le, drop-append-le, length-take-le, length-drop, length-replicate}
+use Rattle.std.proofs.lemmas.Bool.{leb-true, and_parts}
 use Rattle.sheet.specs.declared.Part.{Part}
-use Rattle.sheet.specs.declared.Sheet.{Sheet}
 use Rattle.cue.specs.declared.cursor.Cue.{Cue}
 use Rattle.cue.specs.declared.cursor.Cue.TheVariants.{Run, TagPart}
 use Rattle.cue.specs.declared.cursor.Cursor.{Cursor}
-use Rattle.cue.specs.declared.cursor.MarkedRun.{MarkedRun}
 use Rattle.cue.specs.declared.reading.Content.{Content}
 use Rattle.cue.specs.declared.refusal.Fault.{Fault}
 use Rattle.cue.specs.declared.refusal.Fault.TheVariants.{BrokenRule}
-use Rattle.cue.specs.declared.refusal.Refusal.{Refusal}
-use Rattle.cue.specs.declared.refusal.Refusal.TheVariants.{LineTooLong, BufferTooShort, NoRecord}
 use Rattle.cue.specs.Marks.{least_gap}
 use Rattle.cue.specs.Cues.{Cues, next, good, bad, first_number, in_limits, number_within, after, parts_to_come, runs_to_come, cues_of}
 use Rattle.cue.specs.Cursors.{Yields, cues_left}
-use Rattle.cue.specs.Answers.{with_run, filled, content_of, no_record, reading, ReadAfter}
+use Rattle.cue.specs.Answers.{with_run, filled}
 use Rattle.cue.specs.Contents.{Fits, AllFit, fitting, ended, faulty, With}
 use Rattle.cue.proofs.Numbers.{AllBytes, ok_is, err_not_ok}
 
@@ -25,23 +20,10 @@ pub all_bytes : (bytes : List ℕ) → ((i : ℕ) → get_or bytes i 0 < 256) �
 all_bytes [] h = tt
 all_bytes (b ∷ bytes) h = (h 0, all_bytes bytes (λ i. h (suc i)))
 
--- a run that is written over
-pub run_put : (left right : ℕ) (xs ys : List ℕ) → left ≤ right → right ≤ length xs → ys ≡ replicate (length (take (right - left) (drop left xs))) 1
-    → put_mid left (right - left) xs ys ≡ with_run left right xs
-run_put left right xs ys h l e =
-    let many : length (take (right - left) (drop left xs)) ≡ right - left = length-take-le (right - left) (drop left xs) (omega (arith, h, l, length-drop left xs)) in
-    let there : left + (right - left) ≡ right = omega (arith, h) in
-    let new : ys ≡ replicate (right - left) 1 = e ∙ ap (λ n. replicate n 1) many in
-    ap (λ t. take left xs ++ (ys ++ t)) (drop-drop (right - left) left xs ∙ ap (λ n. drop n xs) there) ∙ ap (λ t. take left xs ++ (t ++ drop right xs)) new
-
 pub run_length : (left right : ℕ) (ms : List ℕ) → left ≤ right → right ≤ length ms → length (with_run left right ms) ≡ length ms
 run_length left right ms h l =
     let ones : List ℕ = replicate (right - left) 1 in
     omega (arith, h, l, length-append (take left ms) (ones ++ drop right ms), length-append ones (drop right ms), length-take-le left ms (omega (arith, h, l)), length-drop right ms, length-replicate {A = ℕ} (right - left) 1)
-
-pub run_added : (cue : Cue) (run : MarkedRun) (was : Content) (ms : List ℕ) → cue ≡ Run run → ms ≡ with_run run.left run.right was.marks
-    → With cue was (record { marks = ms; sheet = was.sheet })
-run_added cue run was ms e w = subst (λ c. With c was (record { marks = ms; sheet = was.sheet })) (sym e) (w, refl)
 
 -- and in a longer list
 pub run_in_front : (left right n : ℕ) (ms : List ℕ) → left ≤ right → right ≤ n → n ≤ length ms → take n (with_run left right ms) ≡ with_run left right (take n ms)
@@ -115,24 +97,3 @@ as_long n (TagPart part) was is long fit w = ap length w.0
 pub fits_more : (n m : ℕ) (cue : Cue) → n ≤ m → Fits n cue → Fits m cue
 fits_more n m (Run run) h fit = (fit.0, omega (arith, h, fit.1))
 fits_more n m (TagPart part) h fit = tt
-
--- what reading answers, case by case
-pub read_too_long : (n room : ℕ) (bytes before : List ℕ) (sheet : Sheet) → 160 < n → ReadAfter (reading n room bytes) n before before sheet sheet (Err LineTooLong)
-read_too_long n room bytes before sheet h = rw (lt-leb n 160 h) (refl, refl, refl)
-
-pub read_too_short : (n : ℕ) (bytes before : List ℕ) (sheet : Sheet) → n ≤ 160 → length before < n → ReadAfter (reading n (length before) bytes) n before before sheet sheet (Err BufferTooShort)
-read_too_short n bytes before sheet h l = rw (le-leb n 160 h, lt-leb n (length before) l) (refl, refl, refl)
-
-module _ (n : ℕ) (bytes before : List ℕ) (sheet : Sheet) (h : n ≤ 160) (l : n ≤ length before) where
-  pub read_faulty : (fault : Fault) (r : Result (Unit {0}) Refusal) → content_of n bytes ≡ Err fault → r ≡ Err (NoRecord fault) → ReadAfter (reading n (length before) bytes) n before before sheet sheet r
-  read_faulty fault r e f = rw (le-leb n 160 h, le-leb n (length before) l, e) (f, refl, refl)
-
-  pub read_good : (ms after : List ℕ) (found : Sheet) → content_of n bytes ≡ Ok (ms, found.entries) → after ≡ ms ++ drop n before
-      → ReadAfter (reading n (length before) bytes) n before after sheet found (Ok tt)
-  read_good ms after found e f = rw (le-leb n 160 h, le-leb n (length before) l, e) (refl, f, refl)
-
--- the front of a buffer that is copied over
-pub front_written : (n : ℕ) (before front from : List ℕ) → front ≡ take (n - 0) (drop 0 from) → front ++ post_of 0 (n - 0) before ≡ take n from ++ drop n before
-front_written n before front from e =
-    let all : n - 0 ≡ n = omega arith in
-    ap (λ t. t ++ post_of 0 (n - 0) before) (e ∙ ap (λ k. take k from) all) ∙ ap (λ k. take n from ++ drop k before) all

@@ -1,4 +1,3 @@
-mod Taking
 mod Yielding
 pub mod Groups
 pub mod Laying

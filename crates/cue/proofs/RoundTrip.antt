@@ -1,5 +1,5 @@
 -- What is written is read back as it was, and what is read gives the same bytes when it is written.
-use Rattle.std.proofs.Common.{◌≡◌, ℕ, zero, suc, ◌+◌, ◌-◌, ◌*◌, ◌<◌, ◌≤◌, Bool, true, false, cond, ◌&&◌, ltb, leb, List, [], ◌∷◌, ◌++◌, length, take, drop, replicate, Some, None, Ok, Err, Option, Result, sym, refl, ap, ◌∙◌, subst, append_assoc, append-nil, arith, length-append}
+use Rattle.std.proofs.Common.{◌≡◌, ℕ, zero, suc, ◌+◌, ◌-◌, ◌<◌, ◌≤◌, true, ltb, leb, List, [], ◌∷◌, ◌++◌, length, take, drop, replicate, Some, None, Ok, Err, Option, Result, sym, refl, ap, ◌∙◌, subst, append_assoc, arith, length-append}
 use Rattle.std.proofs.lemmas.List.{take_at, drop_at, length-replicate, replicate-append-replicate}
 use Rattle.std.proofs.lemmas.Bool.{ltb-true, leb-true, and_parts, and_from}
 use Rattle.sheet.specs.declared.Part.{Part}
@@ -8,10 +8,10 @@ use Rattle.cue.specs.declared.refusal.Fault.{Fault}
 use Rattle.cue.specs.Leb128.{leb128}
 use Rattle.cue.specs.Marks.{marks, runs_of, least_gap, LongestRuns, laid}
 use Rattle.cue.specs.Records.{run_bytes, parts_from, part_bytes, record_of, fits, all_fit}
-use Rattle.cue.specs.Cues.{Cues, next, good, bad, first_number, number_within, after, parts_to_come, runs_to_come, cues_of}
+use Rattle.cue.specs.Cues.{Cues, after, parts_to_come, runs_to_come}
 use Rattle.cue.specs.Answers.{with_run, filled, content_of, Fitting, IsRecord, RoundTrip}
 use Rattle.cue.proofs.Laying.{laid_whole, longest_runs, runs_again, marks_laid, few_runs, within_line, laid_length}
-use Rattle.cue.proofs.Numbers.{AllBytes, Written, number_read, number_read_within, number_written, number_written_within, ok_is, err_not_ok}
+use Rattle.cue.proofs.Numbers.{AllBytes, number_read, number_read_within, number_written, number_written_within, ok_is, err_not_ok}
 use Rattle.cue.proofs.Entries.{with_entry_lem, no_parts, none_fits, fits_past, few_parts, longer, entered, listed, part_fits}
 
 -- a run on a line that is not marked from the end of the run before on

@@ -1,11 +1,10 @@
 -- Runs and parts, one symbol or one tag at a time.
-use Rattle.std.proofs.Common.{◌≡◌, ℕ, zero, suc, ◌+◌, ◌-◌, ◌*◌, ◌<◌, ◌≤◌, Bool, true, false, cond, not, ◌&&◌, eqb, List, [], ◌∷◌, ◌++◌, length, get_or, drop, is_some, Some, None, Option, sym, refl, ap, ◌∙◌, subst, append_assoc, arith}
+use Rattle.std.proofs.Common.{◌≡◌, ℕ, zero, suc, ◌+◌, ◌-◌, ◌<◌, ◌≤◌, Bool, true, false, cond, not, ◌&&◌, eqb, List, [], ◌∷◌, length, get_or, drop, None, Option, sym, refl, ap, ◌∙◌, arith}
 use mir.Val.{bool_byte}
 use Rattle.std.proofs.lemmas.List.{at_drop_more}
 use Rattle.std.proofs.lemmas.Bool.{cond-true, cond-false, eq-eqb, ne_eqb}
 use Rattle.sheet.specs.declared.Part.{Part}
-use Rattle.cue.specs.Marks.{runs_after, runs_of}
-use Rattle.cue.specs.Records.{parts_from}
+use Rattle.cue.specs.Marks.{runs_after}
 
 -- how many runs there are does not hang on the gap or the length of the first
 module _ where
@@ -40,11 +39,6 @@ count_step m ms false count next total e f = by (eqb m 0) e f
     by true e f = omega (arith, e, f, (more_runs 1 0 0 0 ms).0)
     by false e f = omega (arith, e, f)
 
--- no symbol is left
-pub count_end : (inside : Bool) (count total : ℕ) → count + length (runs_after 0 (cond inside 1 0) []) ≡ total + cond inside 1 0 → count ≡ total
-count_end true count total e = omega (arith, e)
-count_end false count total e = omega (arith, e)
-
 -- one symbol more, by what it is and by what came before
 module _ (gap k m : ℕ) (ms : List ℕ) where
   pub goes_on : (m ≡ 0 → ⊥) → runs_after gap k (m ∷ ms) ≡ runs_after gap (k + 1) ms
@@ -73,10 +67,6 @@ no_run gap k e = ap (λ i. runs_after gap i []) e
 pub at_entry : {Y : Type 0} (F : List (Option Part) → Y) (entries : List (Option Part)) (i : ℕ) (o : Option Part) → i < length entries → get_or entries i None ≡ o
     → F (drop i entries) ≡ F (o ∷ drop (i + 1) entries)
 at_entry F entries i o h e = at_drop_more F entries i None h ∙ ap (λ x. F (x ∷ drop (i + 1) entries)) e
-
-pub entry_counted : (tag : ℕ) (o : Option Part) (entries : List (Option Part)) → length (parts_from tag (o ∷ entries)) ≡ bool_byte (is_some o) + length (parts_from (tag + 1) entries)
-entry_counted tag None entries = omega arith
-entry_counted tag (Some part) entries = omega arith
 
 pub bool-byte : (b : Bool) → bool_byte b ≡ cond b 1 0
 bool-byte true = refl

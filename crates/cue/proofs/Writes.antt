@@ -1,20 +1,15 @@
 -- What is written step by step, and what writing answers.
-use Rattle.std.proofs.Common.{◌≡◌, ℕ, ◌+◌, ◌-◌, ◌*◌, ◌<◌, ◌≤◌, true, false, List, [], ◌∷◌, ◌++◌, length, take, drop, Some, None, Ok, Err, Option, Result, sym, refl, ap, ◌∙◌, subst, append_assoc, arith, length-append}
-use borrow.Rule.Slice.PartMut.{post_of}
-use Rattle.std.proofs.lemmas.Bool.{le-leb, lt-leb, leb-true, ltb-true, and_parts}
-use Rattle.std.proofs.lemmas.List.{length-take-le}
+use Rattle.std.proofs.Common.{◌≡◌, ℕ, ◌+◌, ◌-◌, ◌*◌, ◌≤◌, true, List, [], ◌∷◌, ◌++◌, length, Some, None, Option, sym, ap, ◌∙◌, subst, append_assoc, arith, length-append}
+use Rattle.std.proofs.lemmas.Bool.{leb-true, ltb-true, and_parts}
 use Rattle.text.specs.declared.buffer.Text.{Text}
 use Rattle.text.specs.Texts.{Adds, written}
 use Rattle.text.proofs.Chains.{◌then◌, read_as, alone}
 use Rattle.sheet.specs.declared.Part.{Part}
-use Rattle.cue.specs.declared.refusal.Refusal.{Refusal}
-use Rattle.cue.specs.declared.refusal.Refusal.TheVariants.{LineTooLong, BufferTooShort, PartMisfits}
 use Rattle.cue.specs.Leb128.{leb128}
-use Rattle.cue.specs.Marks.{runs_of, LongestRuns, RunsOf}
+use Rattle.cue.specs.Marks.{runs_of, LongestRuns}
 use Rattle.cue.specs.Records.{run_bytes, parts_from, part_bytes, record_of, fits, all_fit}
-use Rattle.cue.specs.Answers.{writing, WrittenAfter}
 use Rattle.cue.proofs.Groups.{leb_length}
-use Rattle.cue.proofs.Laying.{laid_whole, longest_runs, few_runs, within_line}
+use Rattle.cue.proofs.Laying.{longest_runs, few_runs, within_line}
 use Rattle.cue.proofs.Entries.{few_parts}
 
 -- the same text and bytes, told otherwise
@@ -83,37 +78,8 @@ record_short ms entries h e f =
       length-append (leb128 (length parts)) (part_bytes parts),
     )
 
-pub runs_of_lem : (ms : List ℕ) → RunsOf ms
-runs_of_lem ms = record { longest = longest_runs ms; same_marks = laid_whole ms }
-
 -- the whole record
 pub record_written : {t v w x u : Text} (ms : List ℕ) (entries : List (Option Part)) → written t ≡ [] → length ms ≤ 160 → length entries ≡ 8 → all_fit (length ms) entries ≡ true
     → Adds t (leb128 (length (runs_of ms))) v → Adds v (run_bytes (runs_of ms)) w → Adds w (leb128 (length (parts_from 1 entries))) x → Adds x (part_bytes (parts_from 1 entries)) u
     → written u ≡ record_of ms entries
 record_written ms entries e h long f a b c d = alone e (a then (b then (c then d))) (record_short ms entries h long f)
-
-pub record_given : (n : ℕ) (given : List ℕ) (es entries : List (Option Part)) → es ≡ entries → record_of (take (n - 0) given) es ≡ record_of (take n given) entries
-record_given n given es entries e = let all : n - 0 ≡ n = omega arith in ap (λ k. record_of (take k given) es) all ∙ ap (record_of (take n given)) e
-
-pub copied : (bytes front before : List ℕ) → front ≡ bytes → front ++ post_of 0 (length bytes - 0) before ≡ bytes ++ drop (length bytes) before
-copied bytes front before e = let all : length bytes - 0 ≡ length bytes = omega arith in ap (λ l. l ++ post_of 0 (length bytes - 0) before) e ∙ ap (λ k. bytes ++ drop k before) all
-
--- what writing answers, case by case
-module _ (n : ℕ) (given : List ℕ) (entries : List (Option Part)) (before : List ℕ) where
-  pub write_too_long : 160 < n → WrittenAfter (writing n given entries (length before)) before before (Err LineTooLong)
-  write_too_long h = rw (lt-leb n 160 h) (refl, refl)
-
-  module _ (h : n ≤ 160) where
-    pub write_too_short : length given < n → WrittenAfter (writing n given entries (length before)) before before (Err BufferTooShort)
-    write_too_short l = rw (le-leb n 160 h, lt-leb n (length given) l) (refl, refl)
-
-    module _ (l : n ≤ length given) where
-      pub write_misfit : all_fit n entries ≡ false → WrittenAfter (writing n given entries (length before)) before before (Err PartMisfits)
-      write_misfit f = rw (le-leb n 160 h, le-leb n (length given) l, f) (refl, refl)
-
-      module _ (f : all_fit n entries ≡ true) (bytes : List ℕ) (is : bytes ≡ record_of (take n given) entries) where
-        pub write_no_room : length before < length bytes → WrittenAfter (writing n given entries (length before)) before before (Err BufferTooShort)
-        write_no_room m = rw (le-leb n 160 h, le-leb n (length given) l, f, ← is, lt-leb (length bytes) (length before) m) (refl, refl)
-
-        pub write_done : length bytes ≤ length before → (after : List ℕ) → after ≡ bytes ++ drop (length bytes) before → WrittenAfter (writing n given entries (length before)) before after (Ok (length bytes))
-        write_done m after e = rw (le-leb n 160 h, le-leb n (length given) l, f, ← is, le-leb (length bytes) (length before) m) (refl, e)

@@ -1,12 +1,12 @@
 -- What comes of a run or a part, by the numbers that are taken for it.
-use Rattle.std.proofs.Common.{◌≡◌, ℕ, zero, suc, ◌+◌, ◌-◌, ◌<◌, ◌≤◌, List, [], ◌∷◌, length, drop, Some, None, Ok, Err, Option, Result, sym, refl, ap, ◌∙◌, subst, arith}
-use Rattle.std.proofs.lemmas.List.{at_drop_all, at_drop_more}
+use Rattle.std.proofs.Common.{◌≡◌, ℕ, suc, ◌+◌, ◌-◌, ◌<◌, List, length, drop, Some, Ok, Err, Option, Result, sym, refl, ap, ◌∙◌, subst, arith}
+use Rattle.std.proofs.lemmas.List.{at_drop_more}
 use Rattle.cue.specs.declared.cursor.Cue.{Cue}
 use Rattle.cue.specs.declared.cursor.Cursor.{Cursor}
 use Rattle.cue.specs.declared.refusal.Fault.{Fault}
 use Rattle.cue.specs.declared.refusal.Fault.TheVariants.{BrokenRule}
 use Rattle.cue.specs.Marks.{least_gap}
-use Rattle.cue.specs.Cues.{Cues, next, good, bad, number_within, after, run, tag_part, runs_to_come, parts_to_come}
+use Rattle.cue.specs.Cues.{Cues, next, bad, number_within, after, run, tag_part, runs_to_come, parts_to_come}
 use Rattle.cue.specs.Cursors.{left, Took, Yields, cues_left}
 
 pub yields_bad : (k : Cues) (f : Fault) (is : Cursor) (r : Result (Option Cue) Fault) → k ≡ bad f → r ≡ Err f → Yields k is r
@@ -14,9 +14,6 @@ yields_bad k f is r e h = subst (λ k. Yields k is r) (sym e) h
 
 pub yields_next : (k rest : Cues) (cue : Cue) (is : Cursor) → k ≡ next cue rest → cues_left is ≡ rest → Yields k is (Ok (Some cue))
 yields_next k rest cue is e h = subst (λ k. Yields k is (Ok (Some cue))) (sym e) (refl, h)
-
-pub yields_good : (k : Cues) (is : Cursor) → k ≡ good → cues_left is ≡ good → Yields k is (Ok None)
-yields_good k is e h = subst (λ k. Yields k is (Ok None)) (sym e) (refl, h)
 
 module _ (was is : Cursor) (go_on : ℕ → ℕ → List ℕ → Cues) where
   pub took_bad : (x : Result (ℕ × ℕ × List ℕ) Fault) (f : Fault) → Took x was is (Err f) → after x go_on ≡ bad f
@@ -30,9 +27,6 @@ module _ (was is : Cursor) (go_on : ℕ → ℕ → List ℕ → Cues) where
 pub same_symbols : (was is : Cursor) (x : Result (ℕ × ℕ × List ℕ) Fault) (v : ℕ) → Took x was is (Ok v) → is.symbols ≡ was.symbols
 same_symbols was is (Ok y) v t = t.3
 same_symbols was is (Err g) v t = let h : Ok v ≡ Err g = t in cc
-
-pub no_part_left : (symbols parts least at : ℕ) (bytes : List ℕ) → parts ≡ 0 → length bytes ≤ at → parts_to_come symbols parts least at (drop at bytes) ≡ good
-no_part_left symbols parts least at bytes e h = ap (λ k. parts_to_come symbols k least at (drop at bytes)) e ∙ at_drop_all (parts_to_come symbols 0 least at) bytes at h
 
 pub surplus : (symbols parts least at : ℕ) (bytes : List ℕ) → parts ≡ 0 → at < length bytes → parts_to_come symbols parts least at (drop at bytes) ≡ bad (BrokenRule at)
 surplus symbols parts least at bytes e h = ap (λ k. parts_to_come symbols k least at (drop at bytes)) e ∙ at_drop_more (parts_to_come symbols 0 least at) bytes at 0 h

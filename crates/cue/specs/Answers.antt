@@ -1,5 +1,5 @@
 -- What writing and reading a cue record answer, and what they leave.
-use Rattle.std.specs.Prelude.{◌≡◌, ℕ, ◌-◌, ◌≤◌, true, cond, List, ◌++◌, length, take, drop, set, replicate, Some, None, Ok, Err, Option, Result, nat_le}
+use Rattle.std.specs.Prelude.{◌≡◌, ℕ, ◌-◌, ◌≤◌, true, cond, List, ◌++◌, length, take, drop, replicate, Some, None, Ok, Err, Option, Result, nat_le}
 use Rattle.sheet.specs.declared.Part.{Part}
 use Rattle.sheet.specs.declared.Sheet.{Sheet}
 use Rattle.sheet.specs.Entries.{with_entry}

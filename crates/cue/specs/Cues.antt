@@ -1,7 +1,6 @@
 -- What bytes come to that are read as the cue record of a line of so many symbols: runs and parts, one after another, and then that the
 -- record is good, or its first fault. Offsets are those of the record's bytes.
 use Rattle.std.specs.Prelude.{ℕ, zero, suc, ◌+◌, ◌-◌, ◌*◌, cond, ◌&&◌, ◌||◌, List, [], ◌∷◌, Ok, Err, Result, ◌==◌, nat_le, nat_lt}
-use Rattle.sheet.specs.declared.Part.{Part}
 use Rattle.cue.specs.declared.refusal.Fault.{Fault}
 use Rattle.cue.specs.declared.refusal.Fault.TheVariants.{CutShort, LongNumber, BrokenRule}
 use Rattle.cue.specs.declared.cursor.Cue.{Cue}

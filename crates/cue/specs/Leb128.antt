@@ -1,5 +1,5 @@
 -- Unsigned LEB128: the number in groups of seven bits, the lowest first, a byte each, with the high bit set on all but the last byte.
-use Rattle.std.specs.Prelude.{◌≡◌, ℕ, zero, suc, ◌+◌, ◌*◌, ◌/◌, ◌%◌, ◌<◌, cond, List, [], ◌∷◌, nat_lt}
+use Rattle.std.specs.Prelude.{ℕ, zero, suc, ◌+◌, ◌*◌, ◌/◌, ◌%◌, ◌<◌, cond, List, [], ◌∷◌, nat_lt}
 
 -- these bytes are the shortest form of the number: the last group is no 0, unless it is the only one
 pub data Shortest : ℕ → List ℕ → Type 0 where

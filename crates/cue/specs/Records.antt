@@ -1,5 +1,5 @@
 -- The cue record of a line's marks and parts.
-use Rattle.std.specs.Prelude.{◌≡◌, ℕ, ◌+◌, ◌-◌, Bool, true, cond, ◌&&◌, List, [], ◌∷◌, ◌++◌, length, Some, None, Option, nat_le, nat_lt}
+use Rattle.std.specs.Prelude.{ℕ, ◌+◌, ◌-◌, Bool, true, ◌&&◌, List, [], ◌∷◌, ◌++◌, length, Some, None, Option, nat_le, nat_lt}
 use Rattle.sheet.specs.declared.Part.{Part}
 use Rattle.cue.specs.Leb128.{leb128}
 use Rattle.cue.specs.Marks.{runs_of}

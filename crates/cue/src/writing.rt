@@ -129,6 +129,7 @@ fn record_text(line: &[u8], entries: &[Option<Part>]) -> Text
 }
 
 /// Writes the record of a line of so many symbols at the front of `out`, and answers its length. Any mark but 0 marks.
+#[tactic(auto, using(crate::proofs::Laying::longest_runs, crate::proofs::Laying::laid_whole, crate::proofs::Groups::leb_shortest))]
 pub fn write(marks: &[u8], sheet: &Sheet, symbols: usize, out: &mut [u8]) -> Result<usize, Refusal>
     ensures record_or_refusal { WrittenAfter (writing symbols marks.now sheet.now.entries (length out.old)) out.old out.new result }
     ensures runs_of_the_marks { RunsOf (take symbols marks.now) }

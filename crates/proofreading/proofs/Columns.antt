@@ -1,5 +1,5 @@
 -- Where a byte of the pattern begins on its line.
-use Rattle.std.proofs.Common.{◌≡◌, ℕ, ◌+◌, ◌≤◌, List, [], ◌∷◌, ◌++◌, length, take, drop, replicate, codes, sym, refl, ap, ◌∙◌, append_assoc, arith, take-append-drop}
+use Rattle.std.proofs.Common.{◌≡◌, ℕ, ◌≤◌, List, [], ◌∷◌, ◌++◌, length, take, drop, replicate, codes, sym, refl, ap, ◌∙◌, append_assoc, arith, take-append-drop}
 use Rattle.std.proofs.lemmas.List.{replicate-append-replicate, take_all, drop_at}
 use Rattle.std.proofs.lemmas.Bool.{le-ltb, cond-false}
 use Rattle.proofreading.specs.Showing.{shown, shown_byte, pattern_line, column, CaretStandsBelow}

@@ -1,6 +1,6 @@
 -- What stands at a place that is filed and bared, and the first bytes of a line.
-use Rattle.std.proofs.Common.{◌≡◌, ℕ, ◌+◌, ◌<◌, ◌≤◌, min, Bool, true, false, cond, ltb, leb, ◌⊎◌, List, [], ◌∷◌, ◌++◌, length, get_or, take, set, is_some, Some, None, Ok, Err, codes, decimal, Option, Result, sym, refl, ap, ◌∙◌, inl, inr, arith, length-take, take_all, take-take}
-use borrow.Author.Tests.{lt-true, le-false, le-true, lt-false}
+use Rattle.std.proofs.Common.{◌≡◌, ℕ, ◌<◌, ◌≤◌, false, cond, ltb, List, [], ◌++◌, length, take, is_some, Some, None, Ok, Err, codes, decimal, Option, Result, sym, refl, ap, ◌∙◌, inl, inr, arith, length-take, take_all, take-take}
+use borrow.Author.Tests.{lt-true, lt-false}
 use Rattle.std.proofs.lemmas.Bool.{cases_lt}
 use Rattle.alphabet.specs.Letters.{letter_reading}
 use Rattle.pattern.specs.declared.fault.Fault.TheVariants.{TooLong}
@@ -13,7 +13,7 @@ use Rattle.shelf.specs.declared.refusal.Refusal.TheVariants.{PlaceTaken, Unlawfu
 use Rattle.shelf.specs.Places.{held_at}
 use Rattle.shelf.specs.Filing.{filing, unlawful, counts}
 use Rattle.proofreading.specs.Showing.{shown, pattern_line}
-use Rattle.proofreading.specs.Verdicts.{Verdict, verdict_text, refused_text, finding_text}
+use Rattle.proofreading.specs.Verdicts.{Verdict, verdict_text}
 use Rattle.proofreading.specs.declared.tally.Tally.{Tally}
 use Rattle.proofreading.specs.Tallies.{tallied, one_more}
 use Rattle.proofreading.specs.Proofreading.{verdict_on, FrontSuffices}
@@ -46,6 +46,6 @@ front_suffices n line = elim (cases_lt (length line) 121) [
       ∙ sym (ap (verdict_text n line) (long_verdict line (omega arith))))
 ]
 
-pub one_more : (t : Tally) (v : Verdict) → (tallied t v).patterns ≡ one_more t.patterns
-one_more t (Ok counts) = refl
-one_more t (Err refusal) = refl
+pub one_more_lem : (t : Tally) (v : Verdict) → (tallied t v).patterns ≡ one_more t.patterns
+one_more_lem t (Ok counts) = refl
+one_more_lem t (Err refusal) = refl

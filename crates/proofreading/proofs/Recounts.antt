@@ -32,23 +32,23 @@ number_below LineTooLong = lit< tt
 number_below BufferTooShort = lit< tt
 number_below NoMatch = lit< tt
 
-one_more : (m n : ℕ) → m ≡ capped n → one_more m ≡ capped (n + 1)
-one_more m n e = omega arith
+one_more_lem : (m n : ℕ) → m ≡ capped n → one_more m ≡ capped (n + 1)
+one_more_lem m n e = omega arith
 
 numbered_more : (ks : List ℕ) (m n k : ℕ) → m < length ks → get_or ks n 0 ≡ capped k → get_or (set ks m (one_more (get_or ks m 0))) n 0 ≡ capped (cond (eqb m n) (k + 1) k)
 numbered_more ks m n k h e = ⊎_elim
-    (λ (same : m ≡ n). ap (λ j. get_or (set ks m (one_more (get_or ks m 0))) j 0) (sym same) ∙ get_or-set_same ks m (one_more (get_or ks m 0)) 0 h ∙ one_more (get_or ks m 0) k (ap (λ j. get_or ks j 0) same ∙ e) ∙ ap capped (sym (cond-true (eqb m n) (k + 1) k (eq-eqb m n same))))
+    (λ (same : m ≡ n). ap (λ j. get_or (set ks m (one_more (get_or ks m 0))) j 0) (sym same) ∙ get_or-set_same ks m (one_more (get_or ks m 0)) 0 h ∙ one_more_lem (get_or ks m 0) k (ap (λ j. get_or ks j 0) same ∙ e) ∙ ap capped (sym (cond-true (eqb m n) (k + 1) k (eq-eqb m n same))))
     (λ (other : m ≡ n → ⊥). get_or-set_other ks m n (one_more (get_or ks m 0)) 0 (λ s. other (sym s)) ∙ e ∙ ap capped (sym (cond-false (eqb m n) (k + 1) k (ne_eqb m n other))))
     (cases_eq m n)
 
 more : (t : Tally) (v : Verdict) → length t.by_number ≡ 16 → (vs : List Verdict) → Tallies vs t → Tallies (v ∷ vs) (tallied t v)
 more t (Ok counts) sixteen vs k =
-    record { patterns = one_more t.patterns (length vs) k.patterns ∙ ap capped (omega arith); lawful = one_more t.lawful (lawful_in vs) k.lawful; refused = k.refused; numbered = k.numbered }
+    record { patterns = one_more_lem t.patterns (length vs) k.patterns ∙ ap capped (omega arith); lawful = one_more_lem t.lawful (lawful_in vs) k.lawful; refused = k.refused; numbered = k.numbered }
 more t (Err r) sixteen vs k =
     record {
-      patterns = one_more t.patterns (length vs) k.patterns ∙ ap capped (omega arith);
+      patterns = one_more_lem t.patterns (length vs) k.patterns ∙ ap capped (omega arith);
       lawful = k.lawful;
-      refused = one_more t.refused (refused_in vs) k.refused;
+      refused = one_more_lem t.refused (refused_in vs) k.refused;
       numbered = λ n h. numbered_more t.by_number (refusal_number r) n (numbered_in n vs) (omega (arith, number_below r)) (k.numbered n h);
     }
 

@@ -16,9 +16,9 @@ const BAD_TEST: Refusal = Refusal::Unlawful(Fault::BadTest(Misread {
 fn lawful(rt: HostRuntime) {
     let mut out = Text::new();
     write_verdict(&mut out, 1, b"{[A-Z]+}: {.*}", Ok((4, 2)));
-    assert!(rt; out.bytes() == b"line 1: lawful, 4 tests, 2 tags\n    {[A-Z]+}: {.*}\n");
+    assert!(rt; out.bytes() == b"line 1: lawful, 4 tests, 2 tags\n    {[A-Z]+}: {.*}\n".as_slice());
     write_verdict(&mut out, 10, b"{a}", Ok((1, 1)));
-    assert!(rt; out.bytes() == b"line 10: lawful, 1 test, 1 tag\n    {a}\n");
+    assert!(rt; out.bytes() == b"line 10: lawful, 1 test, 1 tag\n    {a}\n".as_slice());
 }
 
 #[test]
@@ -31,12 +31,13 @@ fn refused_at_an_offset(rt: HostRuntime) {
         Err(Refusal::Unlawful(Fault::RepeatedTag(5))),
     );
     assert!(rt;
-        out.bytes() == b"line 2: refused 11 at 5, a * or + repeats a tag\n    ({a})*\n         ^\n"
+        out.bytes()
+            == b"line 2: refused 11 at 5, a * or + repeats a tag\n    ({a})*\n         ^\n".as_slice()
     );
     write_verdict(&mut out, 3, b"[z-a]", Err(BAD_TEST));
     assert!(rt;
         out.bytes()
-            == b"line 3: refused 5 at 0 cause 2, not a test: out of range\n    [z-a]\n    ^\n"
+            == b"line 3: refused 5 at 0 cause 2, not a test: out of range\n    [z-a]\n    ^\n".as_slice()
     );
 }
 
@@ -51,7 +52,7 @@ fn past_the_end_and_unprintable(rt: HostRuntime) {
     );
     assert!(rt;
         out.bytes()
-            == b"line 5: refused 7 at 3, a bracket closes nothing, or one is still open at the end\n    (\\xE9\\x09\n             ^\n"
+            == b"line 5: refused 7 at 3, a bracket closes nothing, or one is still open at the end\n    (\\xE9\\x09\n             ^\n".as_slice()
     );
 }
 
@@ -82,6 +83,6 @@ fn report(rt: HostRuntime) {
     write_report(&mut out, &tally);
     assert!(rt;
         out.bytes()
-            == b"report: 5 patterns, 2 lawful, 3 refused\n    refused 5 (bad test): 1\n    refused 11 (repeated tag): 2\n"
+            == b"report: 5 patterns, 2 lawful, 3 refused\n    refused 5 (bad test): 1\n    refused 11 (repeated tag): 2\n".as_slice()
     );
 }

@@ -7,4 +7,4 @@ use Rattle.cue.proofs.writing.record_text.Goals as goal
 pub returns : goal.returns
 returns c =
     record_written c.args.line.now c.args.entries.now c.new-record.ensures c.requires.short c.requires.eight c.requires.parts_fit
-    (read_as (ap leb128 c.run-count.ensures) c.write-number.ensures) c.write-runs.ensures (read_as (ap leb128 c.part-count.ensures) c.write-number-2.ensures) c.write-parts.ensures
+    (read_as (ap leb128 c.run_count.ensures) c.write_number.ensures) c.write_runs.ensures (read_as (ap leb128 c.part_count.ensures) c.write_number-2.ensures) c.write_parts.ensures

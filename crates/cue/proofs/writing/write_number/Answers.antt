@@ -1,4 +1,4 @@
-use Rattle.std.proofs.Common.{◌≡◌, ◌+◌, ◌/◌, ◌%◌, [], ◌∷◌, sym, refl, ap, ◌∙◌, arith}
+use Rattle.std.proofs.Common.{◌≡◌, ◌+◌, ◌/◌, ◌%◌, ◌∷◌, sym, ap, ◌∙◌, arith}
 use Rattle.text.proofs.Chains.{◌then◌, read_as}
 use Rattle.cue.specs.Leb128.{leb128}
 use Rattle.cue.proofs.Groups.{leb_small, leb_step}

@@ -5,7 +5,7 @@ use Rattle.cue.specs.Records.{parts_from, part_bytes}
 use Rattle.cue.proofs.Scans.{at_entry}
 use Rattle.cue.proofs.Writes.{moved, part_then}
 use Rattle.cue.proofs.writing.write_parts.Goals as goal
-use Rattle.cue.proofs.writing.write_parts.Goals.{in-Some, in-default}
+use Rattle.cue.proofs.writing.write_parts.Goals.{in-Some, in_default}
 
 pub loop-k-preserved : goal.loop-k-preserved
 loop-k-preserved c u a =
@@ -15,8 +15,8 @@ loop-k-preserved c u a =
       | in-Some w ↦
           let part = w.in-Some.part in
           let here = at_entry (λ l. part_bytes (parts_from (i + 1) l)) es i (Some part) c.loop-k-test.true w.in-Some.is in
-          c.loop-k.invariant u (read_as (sym here) (part_then (i + 1) part (parts_from (i + 1 + 1) (drop (i + 1) es)) w.write-part.ensures (moved w.out-is refl a)))
-      | in-default w ↦ c.loop-k.invariant u (moved w.out-is (at_entry (λ l. part_bytes (parts_from (i + 1) l)) es i None c.loop-k-test.true w.in-default.is) a)
+          c.loop-k.invariant u (read_as (sym here) (part_then (i + 1) part (parts_from (i + 1 + 1) (drop (i + 1) es)) w.write_part.ensures (moved w.out-is refl a)))
+      | in_default w ↦ c.loop-k.invariant u (moved w.out-is (at_entry (λ l. part_bytes (parts_from (i + 1) l)) es i None c.loop-k-test.true w.in_default.is) a)
     ]
 
 pub returns : goal.returns

@@ -30,7 +30,7 @@ loop-mark-preserved c =
           let some : 0 < k = omega (arith, w.if-length-eq0.false) in
           let next : runs_after 1 0 rest ≡ runs_after c.if-mark-ne0.gap c.if-mark-ne0.length rest = rw (w.gap-is, w.length-is) refl in (
             λ u a. c.loop-mark.invariant.0 u (read_as (sym (here ∙ ap run_bytes (ends_here gap k m rest w.if-mark-ne0.false some)))
-                (run_then (gap, k) (runs_after 1 0 rest) w.write-number.ensures w.write-number-else-length-eq0.ensures (moved w.out-is (ap run_bytes next) a))),
+                (run_then (gap, k) (runs_after 1 0 rest) w.write_number.ensures w.write_number-else-length-eq0.ensures (moved w.out-is (ap run_bytes next) a))),
             omega (arith, w.gap-is, w.length-is),
           )
     ]
@@ -40,7 +40,7 @@ returns-then-length-gt0 c =
     let gap = c.loop-mark.gap in
     let k = c.loop-mark.length in
     let end = at_drop_all (λ l. run_bytes (runs_after gap k l)) c.args.marks.now c.loop-mark.mark-index c.loop-mark-test.false in
-    c.loop-mark.invariant.0 _ (read_as (sym (end ∙ ap run_bytes (last_run gap k c.if-length-gt0.true) ∙ ap (λ l. leb128 gap ++ l) (append-nil (leb128 k)))) (c.write-number-then-length-gt0.ensures then c.write-number-then-length-gt0-2.ensures))
+    c.loop-mark.invariant.0 _ (read_as (sym (end ∙ ap run_bytes (last_run gap k c.if-length-gt0.true) ∙ ap (λ l. leb128 gap ++ l) (append-nil (leb128 k)))) (c.write_number-then-length-gt0.ensures then c.write_number-then-length-gt0-2.ensures))
 
 pub returns-else-length-gt0 : goal.returns-else-length-gt0
 returns-else-length-gt0 c =

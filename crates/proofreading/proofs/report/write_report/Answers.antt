@@ -10,7 +10,7 @@ pub loop-number-init : goal.loop-number-init
 loop-number-init c = nothing _
 
 pub loop-number-preserved : goal.loop-number-preserved
-loop-number-preserved c = lines_more c.args.tally.now.by_number c.loop-number.number c.loop-number.auto.number (omega arith) c.loop-number.invariant c.write-number.ensures
+loop-number-preserved c = lines_more c.args.tally.now.by_number c.loop-number.number c.loop-number.auto.number (omega arith) c.loop-number.invariant c.write_number.ensures
 
 pub returns : goal.returns
 returns c =
@@ -18,5 +18,5 @@ returns c =
     let sixteen : length counts ≡ 16 = omega arith in
     let rest = drop 1 counts in
     let all : length rest ≤ c.loop-number.number - 1 = omega (arith, length-drop 1 counts) in
-    let text = c.write-head.ensures then read_as (ap (number_lines 1) (take_all (c.loop-number.number - 1) rest all)) c.loop-number.invariant in
+    let text = c.write_head.ensures then read_as (ap (number_lines 1) (take_all (c.loop-number.number - 1) rest all)) c.loop-number.invariant in
     alone c.clear.ensures text (report_fits c.args.tally.now sixteen)

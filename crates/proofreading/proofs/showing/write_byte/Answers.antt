@@ -7,7 +7,7 @@ use Rattle.proofreading.proofs.showing.write_byte.Goals as goal
 abbrev one : ℕ → List ℕ
 one b = b ∷ []
 
-pub returns-else-is-printable : goal.returns-else-is-printable
-returns-else-is-printable c =
-    read_as (sym (cond-false _ _ _ (sym c.is-printable.ensures ∙ c.if-is-printable.false)))
-    (c.text.ensures then read_as (ap one c.hex-digit.ensures) c.byte-else-is-printable.ensures then read_as (ap one c.hex-digit-else-is-printable.ensures) c.byte-else-is-printable-2.ensures)
+pub returns-else-is_printable : goal.returns-else-is_printable
+returns-else-is_printable c =
+    read_as (sym (cond-false _ _ _ (sym c.is_printable.ensures ∙ c.if-is_printable.false)))
+    (c.text.ensures then read_as (ap one c.hex_digit.ensures) c.byte-else-is_printable.ensures then read_as (ap one c.hex_digit-else-is_printable.ensures) c.byte-else-is_printable-2.ensures)

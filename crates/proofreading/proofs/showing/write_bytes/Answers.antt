@@ -9,7 +9,7 @@ pub loop-b-init : goal.loop-b-init
 loop-b-init c = nothing _
 
 pub loop-b-preserved : goal.loop-b-preserved
-loop-b-preserved c = element shown shown_byte shown_push c.args.bytes.now c.loop-b.b-index 0 (omega arith) c.loop-b.invariant c.write-byte.ensures
+loop-b-preserved c = element shown shown_byte shown_push c.args.bytes.now c.loop-b.b-index 0 (omega arith) c.loop-b.invariant c.write_byte.ensures
 
 pub returns : goal.returns
 returns c = read_as (ap (λ bs. shown bs) (take_all c.loop-b.b-index c.args.bytes.now (omega arith))) c.loop-b.invariant

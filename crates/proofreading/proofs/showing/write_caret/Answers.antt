@@ -8,7 +8,7 @@ pub returns-in-Some : goal.returns-in-Some
 returns-in-Some c =
     let before = c.first-in-Some.ensures ∙ ap (take c.in-Some.at) c.first.ensures in
     read_as (sym (ap (caret_line c.args.bytes.now) c.in-Some.is))
-    (c.text.ensures then read_as (ap (λ bs. blank (shown bs)) before) c.write-blank.ensures then c.text_in-Some.ensures)
+    (c.text.ensures then read_as (ap (λ bs. blank (shown bs)) before) c.write_blank.ensures then c.text-in-Some.ensures)
 
-pub returns-in-default : goal.returns-in-default
-returns-in-default c = read_as (sym (ap (caret_line c.args.bytes.now) c.in-default.is)) (nothing _)
+pub returns-in_default : goal.returns-in_default
+returns-in_default c = read_as (sym (ap (caret_line c.args.bytes.now) c.in_default.is)) (nothing _)

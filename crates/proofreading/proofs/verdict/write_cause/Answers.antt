@@ -6,5 +6,5 @@ use Rattle.proofreading.proofs.verdict.write_cause.Goals as goal
 pub returns-in-Some : goal.returns-in-Some
 returns-in-Some c = read_as (sym (ap cause_text c.in-Some.is)) (c.text.ensures then read_as (ap decimal (c.from.ensures ∙ c.number.ensures)) c.number-in-Some.ensures)
 
-pub returns-in-default : goal.returns-in-default
-returns-in-default c = read_as (sym (ap cause_text c.in-default.is)) (nothing _)
+pub returns-in_default : goal.returns-in_default
+returns-in_default c = read_as (sym (ap cause_text c.in_default.is)) (nothing _)

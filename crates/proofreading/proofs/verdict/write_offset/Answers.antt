@@ -6,5 +6,5 @@ use Rattle.proofreading.proofs.verdict.write_offset.Goals as goal
 pub returns-in-Some : goal.returns-in-Some
 returns-in-Some c = read_as (sym (ap offset_text c.in-Some.is)) (c.text.ensures then c.number.ensures)
 
-pub returns-in-default : goal.returns-in-default
-returns-in-default c = read_as (sym (ap offset_text c.in-default.is)) (nothing _)
+pub returns-in_default : goal.returns-in_default
+returns-in_default c = read_as (sym (ap offset_text c.in_default.is)) (nothing _)

@@ -8,10 +8,10 @@ pub returns : goal.returns
 returns c =
     c.text.ensures
     then read_as (ap decimal (c.from.ensures ∙ c.number.ensures)) c.number-2.ensures
-    then read_as (ap offset_text c.offset.ensures) c.write-offset.ensures
-    then read_as (ap cause_text c.cause.ensures) c.write-cause.ensures
+    then read_as (ap offset_text c.offset.ensures) c.write_offset.ensures
+    then read_as (ap cause_text c.cause.ensures) c.write_cause.ensures
     then c.text-2.ensures
-    then read_as c.refusal-words.ensures c.text-3.ensures
+    then read_as c.refusal_words.ensures c.text-3.ensures
     then c.text-4.ensures
-    then c.write-pattern.ensures
-    then read_as (ap (caret_line c.args.bytes.now) c.offset-2.ensures) c.write-caret.ensures
+    then c.write_pattern.ensures
+    then read_as (ap (caret_line c.args.bytes.now) c.offset-2.ensures) c.write_caret.ensures

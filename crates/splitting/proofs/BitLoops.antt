@@ -1,9 +1,9 @@
 -- A loop over the positions of a set, from the lowest on: `whole` is the set, and `rest` what is left of it.
-use Rattle.std.proofs.Common.{◌≡◌, ℕ, ◌-◌, ◌^◌, ◌<◌, ◌⊎◌, subst, inl, inr, arith}
+use Rattle.std.proofs.Common.{◌≡◌, ℕ, ◌-◌, ◌^◌, ◌<◌, ◌⊎◌, inl, inr, arith}
 use lib.Bits.{bit_and, and_le_r}
 use lib.Count.{count_trailing_zeros}
 use Rattle.automaton.specs.Bit.{In}
-use Rattle.automaton.proofs.Bits.{in_and, low_in, low_below, rest_in, rest_above, asked, in_zero}
+use Rattle.automaton.proofs.Bits.{in_and, low_in, low_below, rest_in, rest_above, asked}
 
 -- what is left is part of the set, and what is done is lower
 pub record Left (whole rest : ℕ) : Type 0 where
@@ -47,7 +47,3 @@ module _ (whole rest : ℕ) (l : Left whole rest) (pos : 0 < rest) where
       | inr n ↦ l.rising p r e n (in_and {x = rest} {y = rest - 1} g).0
     ];
   }
-
--- where nothing is left, all is done
-pub none_left : (rest : ℕ) → rest ≡ 0 → (p : ℕ) → In rest p → ⊥
-none_left rest z p e = in_zero (let P : ℕ → Type 0 = λ n. In n p in subst P z e)

@@ -7,8 +7,8 @@ use Rattle.automaton.specs.Bit.{In}
 use Rattle.automaton.proofs.Bits.{in_and, and_in, in_or, or_in, asked, in_zero}
 use Rattle.ranking.specs.Laws.{Near, Lawful}
 use Rattle.splitting.specs.Choice.{Pick, Wins}
-use Rattle.splitting.specs.Steps.{Offered, Preceded}
-use Rattle.splitting.proofs.BitLoops.{Left, lowest_in, lowest_done, lowest_below, lowest_left, done_more, done_still, none_left}
+use Rattle.splitting.specs.Steps.{Offered}
+use Rattle.splitting.proofs.BitLoops.{Left, lowest_in, lowest_done, lowest_below, lowest_left, done_more, done_still}
 use Rattle.splitting.proofs.Choosing.{preferred}
 
 -- what was reached from the live positions that are done
@@ -21,19 +21,6 @@ pub record SoFar {M : Type 0} (compared : M → M → Ordering) (m : ℕ → M) 
 module _ {M : Type 0} (compared : M → M → Ordering) (m : ℕ → M) (follow : List ℕ) (live row : ℕ) where
   pub none_done : (previous : List ℕ) → ((q : ℕ) → get_or previous q 0 < 64) → SoFar compared m follow live live row 0 previous
   none_done previous low = record { picked = λ q e. absurd (in_zero e); admitted = λ q e. absurd (in_zero e); complete = λ p q e n f g. absurd (n e); low = low }
-
-  pub all_done : (rest positions : ℕ) (previous : List ℕ) → rest ≡ 0 → SoFar compared m follow live rest row positions previous → Preceded compared m follow live row positions previous
-  all_done rest positions previous z s = record {
-    picked = λ q e.
-        let k = s.picked q e in
-        record {
-          candidate = (k.candidate.0, k.candidate.2);
-          wins = λ p c. k.wins p (c.0, none_left rest z p, c.1);
-        };
-    admitted = s.admitted;
-    complete = λ p q e f g. s.complete p q e (none_left rest z p) f g;
-    low = s.low;
-  }
 
   module _ {start : M} {stepped : M → ℕ → M} (law : Lawful start stepped compared) (near : (p : ℕ) → In live p → Near start stepped 160 (m p))
       (rest positions : ℕ) (previous after : List ℕ) (l : Left live rest) (pos : 0 < rest) (s : SoFar compared m follow live rest row positions previous)

@@ -1,12 +1,11 @@
 -- One position, offered to the positions of a set, one after another.
-use Rattle.std.proofs.Common.{◌≡◌, ℕ, ◌-◌, ◌<◌, cond, ◌⊎◌, List, get_or, Ordering, sym, refl, ap, ◌∙◌, subst, inl, inr}
+use Rattle.std.proofs.Common.{◌≡◌, ℕ, ◌-◌, ◌<◌, cond, ◌⊎◌, List, get_or, Ordering, sym, ap, ◌∙◌, subst, inl, inr}
 use lib.Bits.{bit_and}
 use lib.Count.{count_trailing_zeros}
 use Rattle.std.specs.Ordering.{is_gt}
 use Rattle.automaton.specs.Bit.{In}
 use Rattle.automaton.proofs.Bits.{in_and}
-use Rattle.splitting.specs.Steps.{Offered}
-use Rattle.splitting.proofs.BitLoops.{Left, lowest_in, lowest_left, lowest_done, done_more, none_left}
+use Rattle.splitting.proofs.BitLoops.{Left, lowest_in, lowest_left, lowest_done, done_more}
 
 -- what stands where the offers are made, and what stood before
 pub record Offering {M : Type 0} (compared : M → M → Ordering) (m : ℕ → M) (p onto rest reached : ℕ) (before now : List ℕ) : Type 0 where
@@ -16,16 +15,6 @@ pub record Offering {M : Type 0} (compared : M → M → Ordering) (m : ℕ → 
   pub contested : (q : ℕ) → In onto q → (In rest q → ⊥) → In reached q → get_or now q 0 ≡ cond (is_gt (compared (m p) (m (get_or before q 0)))) p (get_or before q 0)
 
 module _ {M : Type 0} (compared : M → M → Ordering) (m : ℕ → M) (p onto reached : ℕ) (before : List ℕ) where
-  pub none_offered : Offering compared m p onto onto reached before before
-  none_offered = record { others = λ q n. refl; waiting = λ q e. refl; fresh = λ q e n f. absurd (n e); contested = λ q e n f. absurd (n e) }
-
-  pub all_offered : (rest : ℕ) (now : List ℕ) → rest ≡ 0 → Offering compared m p onto rest reached before now → Offered compared m p onto reached before now
-  all_offered rest now z o = record {
-    others = o.others;
-    fresh = λ q e n. o.fresh q e (none_left rest z q) n;
-    contested = λ q e f. o.contested q e (none_left rest z q) f;
-  }
-
   -- one offer more, to the lowest position of the rest
   module _ (rest : ℕ) (now next : List ℕ) (l : Left onto rest) (pos : 0 < rest) (o : Offering compared m p onto rest reached before now)
       (elsewhere : (q : ℕ) → (q ≡ count_trailing_zeros 64 rest → ⊥) → get_or next q 0 ≡ get_or now q 0)

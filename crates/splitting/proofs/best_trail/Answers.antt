@@ -1,4 +1,4 @@
-use Rattle.std.proofs.Common.{◌≡◌, ◌+◌, ◌-◌, ◌*◌, ◌%◌, ◌<◌, ◌≤◌, Bool, length, get_or, sym, refl, ap, ◌∙◌, subst, arith}
+use Rattle.std.proofs.Common.{◌≡◌, ℕ, ◌+◌, ◌-◌, ◌*◌, ◌%◌, ◌<◌, ◌≤◌, Bool, length, get_or, sym, refl, ap, ◌∙◌, subst, arith, rules}
 use lib.Bits.{bit_and}
 use Rattle.std.proofs.lemmas.List.{length-set}
 use Rattle.automaton.specs.Bit.{In}
@@ -12,22 +12,20 @@ use Rattle.splitting.proofs.Whole.{low_none, low_set, row_may, may_row, cells_as
 use Rattle.splitting.proofs.best_trail.Goals as goal
 use Rattle.splitting.proofs.best_trail.Goals.{then-i-eq0, else-i-eq0}
 
+-- a position that may end a trail is live
+live_one : (x y p : ℕ) → In (bit_and x y) p → In x p
+live_one x y p e = (in_and {x = x} {y = y} e).0
+
 pub loop-i-init : goal.loop-i-init
 loop-i-init g c = (refl, low_none 160 64, λ h. absurd (omega (arith, h)))
 
-pub begin-requires : goal.begin-requires
-begin-requires g c = omega (arith, c.if-work.false, c.loop-i.auto.work)
-
-pub advance-positions-requires : goal.advance-positions-requires
-advance-positions-requires g c =
+pub advance-positions-requires-clause-near : goal.advance-positions-requires-clause-near
+advance-positions-requires-clause-near g c =
     let i = c.loop-i.i in
     let pos : 0 < c.loop-i.i = omega (arith, c.if-i-eq0.false) in
     let short : c.loop-i.i < 160 = omega (arith, c.loop-i-test.true, c.if-symbols-gt-MOST_SYMBOLS.false) in
-    record {
-      room = (omega (arith, c.if-work.false, c.loop-i.auto.work), pos);
-      near = cell_near (g.met.R.Ranking.lawful c.args.ranking.now) c.args.tags.now c.fits-tags c.args.automaton.now (may_stand (λ q s. g.A.Alphabet.meaning c.args.alphabet.now (get_or c.args.codes.now q 0) s) (length c.args.codes.now) c.args.stretch.now)
-          (i - 1) c.loop-i.live (64 * ((i - 1) % 2)) c.loop-i.work c.loop-i.back (omega (arith, short)) (c.loop-i.invariant.2 pos) 159 (omega (arith, short, pos));
-    }
+    cell_near (g.met.R.Ranking.lawful c.args.ranking.now) c.args.tags.now c.fits-tags c.args.automaton.now (may_stand (λ q s. g.A.Alphabet.meaning c.args.alphabet.now (get_or c.args.codes.now q 0) s) (length c.args.codes.now) c.args.stretch.now)
+    (i - 1) c.loop-i.live (64 * ((i - 1) % 2)) c.loop-i.work c.loop-i.back (omega (arith, short)) (c.loop-i.invariant.2 pos) 159 (omega (arith, short, pos))
 
 pub loop-i-preserved : goal.loop-i-preserved
 loop-i-preserved g c =
@@ -63,8 +61,8 @@ loop-i-preserved g c =
           ))
     ]
 
-pub choose-requires : goal.choose-requires
-choose-requires g c =
+pub choose-requires-clause-near : goal.choose-requires-clause-near
+choose-requires-clause-near g c =
     let i = c.loop-i.i in
     let pos : 0 < c.loop-i.i = omega (arith, c.loop-i-test.false, c.loop-i.auto.i-end, c.if-symbols-eq0.false) in
     let n-is : length c.args.stretch.now ≡ c.loop-i.i - 1 + 1 = omega (arith, c.loop-i-test.false, c.loop-i.auto.i-end, c.if-symbols-eq0.false) in
@@ -72,30 +70,26 @@ choose-requires g c =
     let short : c.loop-i.i - 1 ≤ 159 = omega (arith, c.if-symbols-gt-MOST_SYMBOLS.false, n-is) in
     let from : c.half.result ≡ 64 * ((c.loop-i.i - 1) % 2) = c.half.ensures ∙ ap (λ n. 64 * ((n - 1) % 2)) i-is in
     let cells = c.loop-i.invariant.2 pos in
-    record {
-      room = (omega (arith, from), omega (arith, c.if-work.false, c.loop-i.auto.work));
-      near = λ p e.
-          subst (λ f. Near (g.R.Ranking.start c.args.ranking.now) (g.R.Ranking.stepped c.args.ranking.now) 160 (get_or c.loop-i.work (f + p) (g.R.Ranking.start c.args.ranking.now))) (sym from)
-          (cell_near (g.met.R.Ranking.lawful c.args.ranking.now) c.args.tags.now c.fits-tags c.args.automaton.now (may_stand (λ q s. g.A.Alphabet.meaning c.args.alphabet.now (get_or c.args.codes.now q 0) s) (length c.args.codes.now) c.args.stretch.now)
-          (i - 1) c.loop-i.live (64 * ((i - 1) % 2)) c.loop-i.work c.loop-i.back short cells 160 (omega (arith, short)) p (in_and {x = c.loop-i.live} {y = c.args.automaton.now.last} e).0);
-    }
+    λ p e.
+    subst (λ f. Near (g.R.Ranking.start c.args.ranking.now) (g.R.Ranking.stepped c.args.ranking.now) 160 (get_or c.loop-i.work (f + p) (g.R.Ranking.start c.args.ranking.now))) (sym from)
+    (cell_near (g.met.R.Ranking.lawful c.args.ranking.now) c.args.tags.now c.fits-tags c.args.automaton.now (may_stand (λ q s. g.A.Alphabet.meaning c.args.alphabet.now (get_or c.args.codes.now q 0) s) (length c.args.codes.now) c.args.stretch.now)
+    (i - 1) c.loop-i.live (64 * ((i - 1) % 2)) c.loop-i.work c.loop-i.back short cells 160 (omega (arith, short)) p (search (rules, live_one)))
 
 pub overflow_cast-last : goal.overflow_cast-last
 overflow_cast-last g c =
     let pos : 0 < c.loop-i.i = omega (arith, c.loop-i-test.false, c.loop-i.auto.i-end, c.if-symbols-eq0.false) in
     let cells = c.loop-i.invariant.2 pos in
-    let k = in_and {x = c.loop-i.live} {y = c.args.automaton.now.last} c.in-Some.ensures.candidate in
-    omega (arith, (cells.leads c.in-Some.last k.0).front.0)
+    let e = c.in-Some.ensures.candidate in
+    let k : In c.loop-i.live c.in-Some.last = search (rules, live_one) in
+    omega (arith, (cells.leads c.in-Some.last k).front.0)
 
-pub walk_back-requires : goal.walk_back-requires
-walk_back-requires g c =
+pub walk_back-requires-clause-room : goal.walk_back-requires-clause-room
+walk_back-requires-clause-room g c =
     let pos : 0 < c.loop-i.i = omega (arith, c.loop-i-test.false, c.loop-i.auto.i-end, c.if-symbols-eq0.false) in
     let cells = c.loop-i.invariant.2 pos in
-    let k = in_and {x = c.loop-i.live} {y = c.args.automaton.now.last} c.in-Some.ensures.candidate in
-    record {
-      room = ((cells.leads c.in-Some.last k.0).front.0, omega (arith, c.if-symbols-gt-MOST_SYMBOLS.false), omega (arith, c.if-trail-symbols.false));
-      low = c.loop-i.invariant.1;
-    }
+    let e = c.in-Some.ensures.candidate in
+    let k : In c.loop-i.live c.in-Some.last = search (rules, live_one) in
+    ((cells.leads c.in-Some.last k).front.0, omega (arith, c.if-symbols-gt-MOST_SYMBOLS.false), omega (arith, c.if-trail-symbols.false))
 
 pub returns-in-Some : goal.returns-in-Some
 returns-in-Some g c =

@@ -3,11 +3,8 @@ use lib.Count.{count_trailing_zeros}
 use Rattle.std.proofs.lemmas.List.{get_or-set_same, get_or-set_other}
 use Rattle.automaton.specs.Bit.{In}
 use Rattle.ranking.specs.Laws.{at_start}
-use Rattle.splitting.proofs.BitLoops.{all_left, left_next, lowest_below, lowest_left, done_more, none_left}
+use Rattle.splitting.proofs.BitLoops.{left_next, lowest_below, lowest_left, done_more}
 use Rattle.splitting.proofs.sweep.begin.Goals as goal
-
-pub loop-rest-init : goal.loop-rest-init
-loop-rest-init g c = (all_left c.args.begun c.ranges.begun.fits, λ q e n. absurd (n e))
 
 pub step-requires : goal.step-requires
 step-requires g c = rw c.start.ensures at_start
@@ -33,6 +30,3 @@ loop-rest-preserved g c =
             get_or-set_other work t q c.step.result start (λ s. d (subst (λ k. In rest k) (sym s) (lowest_left c.args.begun rest inv.0 pos))) ∙ inv.1 q e d
       ],
     )
-
-pub returns : goal.returns
-returns g c = λ q e. c.loop-rest.invariant.1 q e (none_left c.loop-rest.rest c.loop-rest-test.false q)

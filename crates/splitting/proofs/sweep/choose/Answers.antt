@@ -5,7 +5,7 @@ use Rattle.std.specs.Ordering.{is_gt}
 use Rattle.automaton.specs.Bit.{In}
 use Rattle.automaton.proofs.Bits.{in_below}
 use Rattle.splitting.specs.Choice.{Pick, Wins}
-use Rattle.splitting.proofs.BitLoops.{all_left, left_next, lowest_in, lowest_done, lowest_below, lowest_left, done_more, done_still, none_left}
+use Rattle.splitting.proofs.BitLoops.{all_left, left_next, lowest_in, lowest_done, lowest_below, lowest_left, done_more, done_still}
 use Rattle.splitting.proofs.Choosing.{preferred}
 use Rattle.splitting.proofs.sweep.choose.Goals as goal
 use Rattle.splitting.proofs.sweep.choose.Goals.{then-higher, else-higher}
@@ -22,17 +22,17 @@ loop-rest-init g c =
       },
     )
 
-pub higher-requires : goal.higher-requires
-higher-requires g c =
-    let among = c.args.among in
-    let rest = c.loop-rest.rest in
+pub higher-requires-clause-room : goal.higher-requires-clause-room
+higher-requires-clause-room g c =
     let inv = c.loop-rest.invariant in
     let pos : 0 < c.loop-rest.rest = omega (arith, c.loop-rest-test.true) in
-    record {
-      room = (c.requires.room.0, c.requires.room.1, lowest_below among rest inv.0 pos, in_below c.ranges.among.fits inv.1.candidate.0);
-      near_p = c.requires.near (count_trailing_zeros 64 rest) (lowest_in among rest inv.0 pos);
-      near_r = c.requires.near c.loop-rest.best inv.1.candidate.0;
-    }
+    (c.requires.room.0, c.requires.room.1, lowest_below c.args.among c.loop-rest.rest inv.0 pos, in_below c.ranges.among.fits inv.1.candidate.0)
+
+pub higher-requires-clause-near_p : goal.higher-requires-clause-near_p
+higher-requires-clause-near_p g c =
+    let rest = c.loop-rest.rest in
+    let pos : 0 < c.loop-rest.rest = omega (arith, c.loop-rest-test.true) in
+    c.requires.near (count_trailing_zeros 64 rest) (lowest_in c.args.among rest c.loop-rest.invariant.0 pos)
 
 pub loop-rest-preserved : goal.loop-rest-preserved
 loop-rest-preserved g c =
@@ -57,11 +57,3 @@ loop-rest-preserved g c =
       left_next among rest inv.0 pos,
       subst (λ r. Pick compared m (λ p. In among p × (In (bit_and rest (rest - 1)) p → ⊥)) r) is pick,
     )
-
-pub returns : goal.returns
-returns g c =
-    let k = c.loop-rest.invariant.1 in
-    record {
-      candidate = k.candidate.0;
-      wins = λ p e. k.wins p (e, none_left c.loop-rest.rest c.loop-rest-test.false p);
-    }

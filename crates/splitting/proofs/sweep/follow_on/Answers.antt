@@ -3,9 +3,9 @@ use lib.Bits.{bit_and, and_le_r}
 use lib.Count.{count_trailing_zeros}
 use Rattle.std.proofs.lemmas.List.{get_or-replicate, get_or_past, length-replicate}
 use Rattle.std.proofs.lemmas.Bool.{cases_lt}
-use Rattle.automaton.proofs.Bits.{in_below, or_below}
-use Rattle.splitting.proofs.BitLoops.{all_left, left_next, lowest_in, lowest_below}
-use Rattle.splitting.proofs.Following.{none_done, all_done, offered}
+use Rattle.automaton.proofs.Bits.{or_below}
+use Rattle.splitting.proofs.BitLoops.{all_left, left_next, lowest_in}
+use Rattle.splitting.proofs.Following.{none_done, offered}
 use Rattle.splitting.proofs.sweep.follow_on.Goals as goal
 
 none_before : (q : ℕ) → get_or (replicate 64 0) q 0 < 64
@@ -18,19 +18,11 @@ pub loop-rest-init : goal.loop-rest-init
 loop-rest-init g c =
     (all_left c.args.live c.ranges.live.fits, omega arith, refl, none_done (g.R.Ranking.compared c.args.ranking.now) (λ p. get_or c.args.work.now (c.args.from + p) (g.R.Ranking.start c.args.ranking.now)) c.args.automaton.now.follow c.args.live c.args.row _ none_before)
 
-pub offer-requires : goal.offer-requires
-offer-requires g c =
-    let live = c.args.live in
+pub offer-requires-clause-near_p : goal.offer-requires-clause-near_p
+offer-requires-clause-near_p g c =
     let rest = c.loop-rest.rest in
-    let inv = c.loop-rest.invariant in
     let pos : 0 < c.loop-rest.rest = omega (arith, c.loop-rest-test.true) in
-    record {
-      room = (c.requires.room.0, c.requires.room.1, lowest_below live rest inv.0 pos);
-      near_p = c.requires.near (count_trailing_zeros 64 rest) (lowest_in live rest inv.0 pos);
-      near_reached = λ q e.
-          let k = (inv.3.picked q e).candidate in
-          (in_below c.ranges.live.fits k.0, c.requires.near (get_or c.loop-rest.previous q 0) k.0);
-    }
+    c.requires.near (count_trailing_zeros 64 rest) (lowest_in c.args.live rest c.loop-rest.invariant.0 pos)
 
 pub loop-rest-preserved : goal.loop-rest-preserved
 loop-rest-preserved g c =
@@ -47,8 +39,3 @@ loop-rest-preserved g c =
       offered (g.R.Ranking.compared c.args.ranking.now) (λ p. get_or c.args.work.now (c.args.from + p) (g.R.Ranking.start c.args.ranking.now)) follow live c.args.row
           (g.met.R.Ranking.lawful c.args.ranking.now) c.requires.near rest c.loop-rest.positions c.loop-rest.previous c.offer.new.previous inv.0 pos inv.3 c.offer.ensures,
     )
-
-pub returns : goal.returns
-returns g c =
-    all_done (g.R.Ranking.compared c.args.ranking.now) (λ p. get_or c.args.work.now (c.args.from + p) (g.R.Ranking.start c.args.ranking.now)) c.args.automaton.now.follow c.args.live c.args.row
-    c.loop-rest.rest c.loop-rest.positions c.loop-rest.previous c.loop-rest-test.false c.loop-rest.invariant.3

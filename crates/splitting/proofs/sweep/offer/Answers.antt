@@ -3,14 +3,10 @@ use lib.Count.{count_trailing_zeros}
 use Rattle.std.proofs.lemmas.List.{get_or-set_same, get_or-set_other}
 use Rattle.automaton.specs.Bit.{In}
 use Rattle.ranking.specs.Laws.{Near}
-use Rattle.splitting.proofs.BitLoops.{all_left, left_next, lowest_below, lowest_left}
-use Rattle.splitting.proofs.Offering.{none_offered, all_offered, one_offer}
+use Rattle.splitting.proofs.BitLoops.{left_next, lowest_below, lowest_left}
+use Rattle.splitting.proofs.Offering.{one_offer}
 use Rattle.splitting.proofs.sweep.offer.Goals as goal
 use Rattle.splitting.proofs.sweep.offer.Goals.{then-reached-q-eq0, then-reached-q-eq0-via-then-reached-q-eq0, then-reached-q-eq0-via-else-reached-q-eq0+then-higher, else-reached-q-eq0+else-higher}
-
-pub loop-rest-init : goal.loop-rest-init
-loop-rest-init g c =
-    (all_left c.args.onto c.ranges.onto.fits, c.told-previous, none_offered (g.R.Ranking.compared c.args.ranking.now) (λ p. get_or c.args.work.now (c.args.from + p) (g.R.Ranking.start c.args.ranking.now)) c.args.p c.args.onto c.args.reached c.args.previous.now)
 
 not_in : (x k : ℕ) → (x / 2 ^ k) % 2 ≡ 0 → In x k → ⊥
 not_in x k z e = omega (arith, z, e.is)
@@ -18,19 +14,15 @@ not_in x k z e = omega (arith, z, e.is)
 is_in : (x k : ℕ) → ((x / 2 ^ k) % 2 ≡ 0 → ⊥) → In x k
 is_in x k n = record { is = omega (arith, n) }
 
-pub higher-requires : goal.higher-requires
-higher-requires g c =
+pub higher-requires-clause-near_r : goal.higher-requires-clause-near_r
+higher-requires-clause-near_r g c =
     let rest = c.loop-rest.rest in
     let t = count_trailing_zeros 64 rest in
     let inv = c.loop-rest.invariant in
     let pos : 0 < c.loop-rest.rest = omega (arith, c.loop-rest-test.true) in
     let was = sym (inv.2.waiting t (lowest_left c.args.onto rest inv.0 pos)) in
     let near = c.requires.near_reached t (is_in c.args.reached t c.if-reached-q-eq0.false) in
-    record {
-      room = (c.requires.room.0, c.requires.room.1, c.requires.room.2, subst (λ r. r < 64) was near.0);
-      near_p = c.requires.near_p;
-      near_r = subst (λ r. Near (g.R.Ranking.start c.args.ranking.now) (g.R.Ranking.stepped c.args.ranking.now) 160 (get_or c.args.work.now (c.args.from + r) (g.R.Ranking.start c.args.ranking.now))) was near.1;
-    }
+    subst (λ r. Near (g.R.Ranking.start c.args.ranking.now) (g.R.Ranking.stepped c.args.ranking.now) 160 (get_or c.args.work.now (c.args.from + r) (g.R.Ranking.start c.args.ranking.now))) was near.1
 
 pub loop-rest-preserved : goal.loop-rest-preserved
 loop-rest-preserved g c =
@@ -62,8 +54,3 @@ loop-rest-preserved g c =
                 inr (is_in c.args.reached t w.if-reached-q-eq0.false, ap (λ l. get_or l t 0) w.previous-is ∙ ap (λ b. cond b c.args.p (get_or now t 0)) (sym w.if-higher.false ∙ w.higher.ensures))
           ]),
     )
-
-pub returns : goal.returns
-returns g c =
-    all_offered (g.R.Ranking.compared c.args.ranking.now) (λ p. get_or c.args.work.now (c.args.from + p) (g.R.Ranking.start c.args.ranking.now)) c.args.p c.args.onto c.args.reached c.args.previous.now
-    c.loop-rest.rest c.loop-rest.previous c.loop-rest-test.false c.loop-rest.invariant.2

@@ -1,36 +1,23 @@
-use Rattle.std.proofs.Common.{◌≡◌, ◌+◌, ◌<◌, length, get_or, set, sym, refl, ap, ◌∙◌, subst, inl, inr, arith, rules}
+use Rattle.std.proofs.Common.{◌≡◌, ◌+◌, ◌<◌, length, get_or, set, sym, ap, ◌∙◌, subst, inl, inr, arith, rules}
 use lib.Count.{count_trailing_zeros}
 use Rattle.std.proofs.lemmas.List.{get_or-set_same, get_or-set_other, get_or_read}
 use Rattle.automaton.specs.Bit.{In}
 use Rattle.ranking.specs.Laws.{Near}
-use Rattle.splitting.proofs.BitLoops.{all_left, left_next, lowest_in, lowest_below, lowest_left, done_more, none_left}
+use Rattle.splitting.proofs.BitLoops.{left_next, lowest_in, lowest_below, lowest_left, done_more}
 use Rattle.splitting.proofs.sweep.set_measures.Goals as goal
-
-pub loop-rest-init : goal.loop-rest-init
-loop-rest-init g c = (all_left c.args.reached.now.positions (omega arith), (λ q e n. absurd (n e)), (λ p h. refl))
-
--- what is known of the position before the lowest that is left
-module _ (g : _) (c : goal.After-p-1 g) where
-  pos : 0 < c.loop-rest.rest
-  pos = omega (arith, c.loop-rest-test.true)
-
-  low : count_trailing_zeros 64 c.loop-rest.rest < 64
-  low = lowest_below c.args.reached.now.positions c.loop-rest.rest c.loop-rest.invariant.0 pos
-
-  near : (get_or c.args.reached.now.previous (count_trailing_zeros 64 c.loop-rest.rest) 0 < 64)
-      × Near (g.R.Ranking.start c.args.ranking.now) (g.R.Ranking.stepped c.args.ranking.now) 159 (get_or c.args.work.now (c.args.from + get_or c.args.reached.now.previous (count_trailing_zeros 64 c.loop-rest.rest) 0) (g.R.Ranking.start c.args.ranking.now))
-  near = c.requires.near (count_trailing_zeros 64 c.loop-rest.rest) (lowest_in c.args.reached.now.positions c.loop-rest.rest c.loop-rest.invariant.0 pos)
-
-  here : c.args.from + get_or c.args.reached.now.previous (count_trailing_zeros 64 c.loop-rest.rest) 0 < length c.loop-rest.work
-  here = omega (arith, near.0, c.requires.room.0, c.requires.room.2, c.loop-rest.auto.work)
 
 pub offset_bounds-work-from : goal.offset_bounds-work-from
 offset_bounds-work-from g c =
-    let h : c.args.from + get_or c.args.reached.now.previous (count_trailing_zeros 64 c.loop-rest.rest) 0 < length c.loop-rest.work = here g c in
+    let pos : 0 < c.loop-rest.rest = omega (arith, c.loop-rest-test.true) in
+    let near = c.requires.near (count_trailing_zeros 64 c.loop-rest.rest) (lowest_in c.args.reached.now.positions c.loop-rest.rest c.loop-rest.invariant.0 pos) in
+    let h : c.args.from + get_or c.args.reached.now.previous (count_trailing_zeros 64 c.loop-rest.rest) 0 < length c.loop-rest.work = omega (arith, near.0, c.requires.room.0, c.requires.room.2, c.loop-rest.auto.work) in
     search rules
 
 pub bounds-work-from : goal.bounds-work-from
-bounds-work-from g c = here g c
+bounds-work-from g c =
+    let pos : 0 < c.loop-rest.rest = omega (arith, c.loop-rest-test.true) in
+    let near = c.requires.near (count_trailing_zeros 64 c.loop-rest.rest) (lowest_in c.args.reached.now.positions c.loop-rest.rest c.loop-rest.invariant.0 pos) in
+    omega (arith, near.0, c.requires.room.0, c.requires.room.2, c.loop-rest.auto.work)
 
 pub step-requires : goal.step-requires
 step-requires g c =
@@ -82,6 +69,3 @@ loop-rest-preserved g c =
       ]),
       (λ k h. get_or-set_other work (to + t) (from + k) c.step.result start (c.requires.apart k t h low) ∙ inv.2 k h),
     )
-
-pub returns : goal.returns
-returns g c = λ q e. c.loop-rest.invariant.1 q e (none_left c.loop-rest.rest c.loop-rest-test.false q)

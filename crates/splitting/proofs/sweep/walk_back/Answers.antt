@@ -1,4 +1,4 @@
-use Rattle.std.proofs.Common.{◌≡◌, ℕ, suc, ◌+◌, ◌-◌, ◌<◌, ◌≤◌, List, [], ◌∷◌, ◌++◌, map, reverse, length, get_or, take, drop, set, sym, refl, ap, ◌∙◌, subst, append_assoc, append-nil, arith}
+use Rattle.std.proofs.Common.{◌≡◌, ℕ, suc, ◌+◌, ◌-◌, ◌<◌, ◌≤◌, List, [], ◌∷◌, ◌++◌, map, reverse, length, get_or, take, drop, set, sym, ap, ◌∙◌, append_assoc, arith}
 use mathlib.Core.List.{reverse-cons}
 use Rattle.std.proofs.lemmas.List.{drop-set, drop-set-lt, map-append}
 use Rattle.splitting.specs.Steps.{back_from}
@@ -29,20 +29,6 @@ more back trail whole n i q h l room e =
     ∙ sym (ap (λ t. t ++ take (n - i) (drop i trail)) (numbers_more back i q h))
     ∙ e
 
-begun : (back : List (List ℕ)) (trail : List ℕ) (n q : ℕ) → numbers (back_from back n q) ++ take (n - n) (drop n trail) ≡ numbers (back_from back n q)
-begun back trail n q =
-    let e : n - n ≡ 0 = omega arith in
-    ap (λ k. numbers (back_from back n q) ++ take k (drop n trail)) e ∙ append-nil (numbers (back_from back n q))
-
-done : (back : List (List ℕ)) (trail whole : List ℕ) (n i q : ℕ) → i ≤ 0 → numbers (back_from back i q) ++ take (n - i) (drop i trail) ≡ whole → take n trail ≡ whole
-done back trail whole n i q h e =
-    let z : i ≡ 0 = omega arith in
-    let s : n ≡ n - 0 = omega arith in
-    ap (λ k. take k trail) s ∙ subst (λ k. numbers (back_from back k q) ++ take (n - k) (drop k trail) ≡ whole) z e
-
-pub loop-i-init : goal.loop-i-init
-loop-i-init c = (c.requires.room.0, begun c.args.back.now c.args.trail.now c.args.symbols c.args.last, refl)
-
 pub loop-i-preserved : goal.loop-i-preserved
 loop-i-preserved c =
     let room = c.requires.room in
@@ -51,9 +37,3 @@ loop-i-preserved c =
       more c.args.back.now c.loop-i.trail (numbers (back_from c.args.back.now c.args.symbols c.args.last)) c.args.symbols c.loop-i.i c.loop-i.q h (omega (arith, c.loop-i.auto.i)) (omega (arith, room.2, c.loop-i.auto.trail)) c.loop-i.invariant.1,
       drop-set-lt c.args.symbols c.loop-i.trail (c.loop-i.i - 1) (c.loop-i.q + 1) (omega (arith, h, c.loop-i.auto.i)) ∙ c.loop-i.invariant.2,
     )
-
-pub returns : goal.returns
-returns c = record {
-  written = done c.args.back.now c.loop-i.trail (numbers (back_from c.args.back.now c.args.symbols c.args.last)) c.args.symbols c.loop-i.i c.loop-i.q c.loop-i-test.false c.loop-i.invariant.1;
-  rest = c.loop-i.invariant.2;
-}

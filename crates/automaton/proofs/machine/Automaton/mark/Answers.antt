@@ -35,10 +35,10 @@ pub loop-i-preserved-then-low-i : goal.loop-i-preserved-then-low-i
 loop-i-preserved-then-low-i c =
     let e = c.as_slice-line.ensures.rows in
     let n = ap length e in
-    one _ _ _ _ _ _ _ _ _ c.loop-i.invariant c.loop-i-test.true (omega arith) (starts _ _ _ _ e c.leasts-least.ensures) c.min-low.ensures c.if-low-i.true
+    one _ _ _ _ _ _ _ _ _ c.loop-i.invariant c.loop-i-test.true (omega arith) (starts _ _ _ _ e c.leasts-least.ensures) c.min-low.ensures (omega (arith, c.if-low-i.true))
 
 pub loop-i-preserved : goal.loop-i-preserved
 loop-i-preserved c =
     let e = c.as_slice-line.ensures.rows in
     let n = ap length e in
-    nil _ _ _ _ _ _ _ _ _ c.loop-i.invariant c.loop-i-test.true (omega arith) (starts _ _ _ _ e c.leasts-least.ensures) c.min-low.ensures c.if-low-i.false
+    nil _ _ _ _ _ _ _ _ _ c.loop-i.invariant c.loop-i-test.true (omega arith) (starts _ _ _ _ e c.leasts-least.ensures) c.min-low.ensures (omega (arith, c.if-low-i.false))

@@ -43,8 +43,8 @@ module _ (c : Cursor) (parts least : ℕ) (some : 0 < parts) where
   bad_tag d f t = one_of ∙ took_bad c d _ _ f t
 
   module _ (d : Cursor) (tag : ℕ) (tagged : Took (number_within least 8 c.offset (left c)) c d (Ok tag)) where
-    after_tag : of_parts parts ≡ after (number_within 0 d.symbols d.offset (left d)) (λ start behind-start bytes_left.
-        after (number_within 1 (c.symbols - start) behind-start bytes_left) (λ len behind bytes_left.
+    after_tag : of_parts parts ≡ after (number_within 0 d.symbols d.offset (left d)) (λ start behind_start bytes_left.
+        after (number_within 1 (c.symbols - start) behind_start bytes_left) (λ len behind bytes_left.
         next (tag_part c.offset tag start (start + len)) (parts_to_come c.symbols (parts - 1) (tag + 1) behind bytes_left)))
     after_tag = one_of ∙ took_ok c d _ _ tag tagged ∙ rw (same_symbols c d _ tag tagged) refl
 
@@ -68,18 +68,18 @@ module _ (c : Cursor) (runs end : ℕ) (some : 0 < runs) (least most : ℕ) (at_
   abbrev pub of_runs : ℕ → Cues
   of_runs k = runs_to_come c.symbols k end c.offset (left c)
 
-  one_run : of_runs runs ≡ after (number_within least most c.offset (left c)) (λ gap behind-gap bytes_left.
-      after (number_within 1 (c.symbols - (end + gap)) behind-gap bytes_left) (λ len behind bytes_left.
+  one_run : of_runs runs ≡ after (number_within least most c.offset (left c)) (λ gap behind_gap bytes_left.
+      after (number_within 1 (c.symbols - (end + gap)) behind_gap bytes_left) (λ len behind bytes_left.
       next (run c.offset (end + gap) (end + gap + len)) (runs_to_come c.symbols (runs - 1) (end + gap + len) behind bytes_left)))
   one_run = let e : runs ≡ suc (runs - 1) = omega (arith, some) in ap of_runs e ∙ rw (at_least_lem, at_most) refl
 
   pub bad_gap : (d : Cursor) (f : Fault) → Took (number_within least most c.offset (left c)) c d (Err f) → of_runs runs ≡ bad f
   bad_gap d f t = one_run ∙ took_bad c d _ _ f t
 
-  module _ (d : Cursor) (gap : ℕ) (gapped : Took (number_within least most c.offset (left c)) c d (Ok gap)) (room : ℕ) (room-is : room ≡ d.symbols - (end + gap)) where
+  module _ (d : Cursor) (gap : ℕ) (gapped : Took (number_within least most c.offset (left c)) c d (Ok gap)) (room : ℕ) (room_is : room ≡ d.symbols - (end + gap)) where
     after_gap : of_runs runs ≡ after (number_within 1 room d.offset (left d)) (λ len behind bytes_left.
         next (run c.offset (end + gap) (end + gap + len)) (runs_to_come c.symbols (runs - 1) (end + gap + len) behind bytes_left))
-    after_gap = one_run ∙ took_ok c d _ _ gap gapped ∙ rw (room-is, same_symbols c d _ gap gapped) refl
+    after_gap = one_run ∙ took_ok c d _ _ gap gapped ∙ rw (room_is, same_symbols c d _ gap gapped) refl
 
     pub bad_run : (e : Cursor) (f : Fault) → Took (number_within 1 room d.offset (left d)) d e (Err f) → of_runs runs ≡ bad f
     bad_run e f t = after_gap ∙ took_bad d e _ _ f t

@@ -52,8 +52,8 @@ reading symbols room bytes = cond (nat_le symbols 160) (cond (nat_le symbols roo
 
 -- the marks stand at the front of the buffer, what stands behind is as it was, and the sheet has the parts; a refusal changes nothing
 abbrev pub ReadAfter : Result (List ℕ × List (Option Part)) Refusal → ℕ → List ℕ → List ℕ → Sheet → Sheet → Result (Unit {0}) Refusal → Type 0
-ReadAfter (Ok x) symbols before after sheet-before sheet-after r = (r ≡ Ok tt) × (after ≡ x.0 ++ drop symbols before) × (sheet-after.entries ≡ x.1)
-ReadAfter (Err refusal) symbols before after sheet-before sheet-after r = (r ≡ Err refusal) × (after ≡ before) × (sheet-after ≡ sheet-before)
+ReadAfter (Ok x) symbols before after sheet_before sheet_after r = (r ≡ Ok tt) × (after ≡ x.0 ++ drop symbols before) × (sheet_after.entries ≡ x.1)
+ReadAfter (Err refusal) symbols before after sheet_before sheet_after r = (r ≡ Err refusal) × (after ≡ before) × (sheet_after ≡ sheet_before)
 
 -- marks and entries of a line of so many symbols
 pub record Fitting (symbols : ℕ) (ms : List ℕ) (entries : List (Option Part)) : Type 0 where

@@ -46,17 +46,17 @@ abbrev pub parts_to_come : ℕ → ℕ → ℕ → ℕ → List ℕ → Cues
 parts_to_come symbols zero least at [] = good
 parts_to_come symbols zero least at (byte ∷ rest) = bad (BrokenRule at)
 parts_to_come symbols (suc more) least at bytes =
-    after (number_within least 8 at bytes) (λ tag behind-tag bytes_left.
-    after (number_within 0 symbols behind-tag bytes_left) (λ start behind-start bytes_left.
-    after (number_within 1 (symbols - start) behind-start bytes_left) (λ len behind bytes_left.
+    after (number_within least 8 at bytes) (λ tag behind_tag bytes_left.
+    after (number_within 0 symbols behind_tag bytes_left) (λ start behind_start bytes_left.
+    after (number_within 1 (symbols - start) behind_start bytes_left) (λ len behind bytes_left.
     next (tag_part at tag start (start + len)) (parts_to_come symbols more (tag + 1) behind bytes_left))))
 
 -- so many runs are to come, the run before having ended there, and then the count of parts and the parts
 abbrev pub runs_to_come : ℕ → ℕ → ℕ → ℕ → List ℕ → Cues
 runs_to_come symbols zero end at bytes = after (first_number at bytes) (λ parts behind bytes_left. parts_to_come symbols parts 1 behind bytes_left)
 runs_to_come symbols (suc more) end at bytes =
-    after (number_within (least_gap end) (symbols - end) at bytes) (λ gap behind-gap bytes_left.
-    after (number_within 1 (symbols - (end + gap)) behind-gap bytes_left) (λ len behind bytes_left.
+    after (number_within (least_gap end) (symbols - end) at bytes) (λ gap behind_gap bytes_left.
+    after (number_within 1 (symbols - (end + gap)) behind_gap bytes_left) (λ len behind bytes_left.
     next (run at (end + gap) (end + gap + len)) (runs_to_come symbols more (end + gap + len) behind bytes_left)))
 
 -- the count of runs, and what comes then

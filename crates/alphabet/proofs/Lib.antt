@@ -1,3 +1,2 @@
-pub mod LetterSteps
 pub mod LettersRead
 pub mod WordsRead

@@ -86,8 +86,8 @@ number_refused most limit bytes cause (too_large ds rest digits few large) =
     let over : leb (value ds) limit ≡ false = lt-leb (value ds) limit large in
     digits_read most limit 0 0 ds (59 ∷ rest) digits (omega arith) ∙ rw (zero-add, some, over) refl
 number_refused most limit bytes cause (no_digit rest) = refl
-number_refused most limit bytes cause (other_byte ds b rest digits few no-digit-b no-end-b) =
-    digits_read most limit 0 0 ds (b ∷ rest) digits (omega arith) ∙ rw (digit_false b no-digit-b, ne_eqb b 59 no-end-b) refl
+number_refused most limit bytes cause (other_byte ds b rest digits few no_digit_b no_end_b) =
+    digits_read most limit 0 0 ds (b ∷ rest) digits (omega arith) ∙ rw (digit_false b no_digit_b, ne_eqb b 59 no_end_b) refl
 
 fault_refused : (bytes : List ℕ) (cause : Cause) → WordFault bytes cause → word_reading bytes ≡ Err cause
 fault_refused bytes cause no_first = refl

@@ -1,7 +1,8 @@
 -- The forms in which letters are written, one by one, and what is wrong with bytes that are none.
 -- The bytes that are named by number: 45 - 46 . 91 [ 92 \ 93 ] 94 ^
-use Rattle.std.specs.Prelude.{◌≡◌, ℕ, ◌^◌, ◌<◌, ◌≤◌, Bool, true, not, ◌&&◌, ◌≢◌, List, [], ◌∷◌, length, Ok, Err, nat_eq, nat_le, slice_index}
+use Rattle.std.specs.Prelude.{◌≡◌, ℕ, ◌<◌, ◌≤◌, Bool, true, not, ◌&&◌, ◌≢◌, List, [], ◌∷◌, length, nat_eq, nat_le, slice_index}
 use Rattle.alphabet.specs.declared.Cause.{Cause}
+use Rattle.alphabet.specs.Readings.{ReadByForms}
 use Rattle.alphabet.specs.declared.Cause.TheVariants.{CutShort, OutOfRange, UnknownForm}
 use Rattle.alphabet.specs.Letters.{letter_meaning, letter_reading}
 
@@ -45,16 +46,6 @@ AreBytes bytes = (k : ℕ) → k < length bytes → slice_index bytes k < 256
 abbrev pub MeansLetters : ℕ → (ℕ → Bool) → Type 0
 MeansLetters test admitted = (s : ℕ) → s < 256 → letter_meaning test s ≡ admitted s
 
--- what is read of these bytes is the form that they begin with, and what is refused begins with none
-pub record LettersRead (bytes : List ℕ) : Type 0 where
-  -- what is read is a form, and the test means what the form admits
-  pub is_form : (test used : ℕ) → letter_reading bytes ≡ Ok (test, used) → (test < 2 ^ 32) × ((admitted : ℕ → Bool) × LetterForm bytes admitted used × MeansLetters test admitted)
-  -- every form is read, and the test means what the form admits
-  pub form_is_read : (admitted : ℕ → Bool) (used : ℕ) → LetterForm bytes admitted used → (test : ℕ) × (letter_reading bytes ≡ Ok (test, used)) × MeansLetters test admitted
-  -- what is refused has a fault of that cause
-  pub is_fault : (cause : Cause) → letter_reading bytes ≡ Err cause → LetterFault bytes cause
-  -- every fault is refused for its cause
-  pub fault_is_refused : (cause : Cause) → LetterFault bytes cause → letter_reading bytes ≡ Err cause
-
+-- of any bytes, letters read exactly their forms
 abbrev pub LettersReadTheirForms : Type 0
-LettersReadTheirForms = (bytes : List ℕ) → AreBytes bytes → LettersRead bytes
+LettersReadTheirForms = (bytes : List ℕ) → AreBytes bytes → ReadByForms LetterForm LetterFault MeansLetters letter_reading bytes

@@ -1,7 +1,8 @@
 -- The forms in which words are written, one by one, and what is wrong with bytes that are none.
 -- The bytes that are named by number: 35 # 46 . 48 0 57 9 59 ; 64 @
-use Rattle.std.specs.Prelude.{◌≡◌, ℕ, ◌+◌, ◌-◌, ◌*◌, ◌/◌, ◌%◌, ◌^◌, ◌<◌, ◌≤◌, Bool, true, ◌≢◌, List, [], ◌∷◌, ◌++◌, length, Ok, Err, nat_eq}
+use Rattle.std.specs.Prelude.{◌≡◌, ℕ, ◌+◌, ◌-◌, ◌*◌, ◌/◌, ◌%◌, ◌<◌, ◌≤◌, Bool, true, ◌≢◌, List, [], ◌∷◌, ◌++◌, length, nat_eq}
 use Rattle.alphabet.specs.declared.Cause.{Cause}
+use Rattle.alphabet.specs.Readings.{ReadByForms}
 use Rattle.alphabet.specs.declared.Cause.TheVariants.{CutShort, OutOfRange, UnknownForm}
 use Rattle.alphabet.specs.Words.{word_meaning, word_reading}
 
@@ -61,16 +62,6 @@ pub data WordFault : List ℕ → Cause → Type 0 where
 abbrev pub MeansWords : ℕ → (ℕ → Bool) → Type 0
 MeansWords test admitted = (s : ℕ) → word_meaning test s ≡ admitted s
 
--- what is read of these bytes is the form that they begin with, and what is refused begins with none
-pub record WordsRead (bytes : List ℕ) : Type 0 where
-  -- what is read is a form, and the test means what the form admits
-  pub is_form : (test used : ℕ) → word_reading bytes ≡ Ok (test, used) → (test < 2 ^ 32) × ((admitted : ℕ → Bool) × WordForm bytes admitted used × MeansWords test admitted)
-  -- every form is read, and the test means what the form admits
-  pub form_is_read : (admitted : ℕ → Bool) (used : ℕ) → WordForm bytes admitted used → (test : ℕ) × (word_reading bytes ≡ Ok (test, used)) × MeansWords test admitted
-  -- what is refused has a fault of that cause
-  pub is_fault : (cause : Cause) → word_reading bytes ≡ Err cause → WordFault bytes cause
-  -- every fault is refused for its cause
-  pub fault_is_refused : (cause : Cause) → WordFault bytes cause → word_reading bytes ≡ Err cause
-
+-- of any bytes, words read exactly their forms
 abbrev pub WordsReadTheirForms : Type 0
-WordsReadTheirForms = (bytes : List ℕ) → WordsRead bytes
+WordsReadTheirForms = (bytes : List ℕ) → ReadByForms WordForm WordFault MeansWords word_reading bytes

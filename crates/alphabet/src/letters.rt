@@ -21,6 +21,7 @@ pub struct Letters;
 
 impl Letters {
     // Letters that read each form as what it admits, and refuse all else for its cause.
+    #[tactic(auto, using(crate::proofs::LettersRead::letters_read_their_forms))]
     pub fn new() -> Letters
         ensures reads_its_forms { LettersReadTheirForms }
     {
@@ -97,44 +98,19 @@ impl Notation for Letters {
 #[cfg(test)]
 mod tests {
     use super::*;
-    use crate::is_sign;
-    use std::process::Abort;
+    use crate::forms::{check_form, read};
     use std::test::Fail;
-
-    fn read(bytes: &[u8]) -> Option<Result<(u32, usize), Cause>> {
-        match bytes {
-            [first, ..] if !is_sign(*first) => Some(Letters::new().read(bytes)),
-            _ => None,
-        }
-    }
-
-    // A form takes so many bytes, and admits the one byte and not the other.
-    fn check_form(
-        rt: &impl Abort,
-        form: &[u8],
-        used: usize,
-        inside: u8,
-        outside: u8,
-    ) -> Result<(), Fail> {
-        let Some(Ok((test, taken))) = read(form) else {
-            return Err(Fail::new("no form"));
-        };
-        assert_eq!(rt; taken, used);
-        assert!(rt; Letters::new().admits(test, &inside));
-        assert!(rt; !Letters::new().admits(test, &outside));
-        Ok(())
-    }
 
     #[test]
     fn forms(rt: HostRuntime) -> Result<(), Fail> {
-        check_form(&rt, b"[a-c]+", 5, b'c', b'd')?;
-        check_form(&rt, b"[^a-c]+", 6, b'd', b'c')?;
-        check_form(&rt, b"\\*", 2, b'*', b'\\')?;
-        check_form(&rt, b"[(-)]", 5, b')', b'*')?;
-        check_form(&rt, b"[^^-^]", 6, b'-', b'^')?;
-        check_form(&rt, b"[]-]]", 5, b']', b'-')?;
-        check_form(&rt, b"ab", 1, b'a', b'b')?;
-        assert_eq!(rt; read(b"."), Some(Ok((range(0, 255), 1))));
+        check_form(&rt, Letters, b"[a-c]+", 5, &b'c', &b'd')?;
+        check_form(&rt, Letters, b"[^a-c]+", 6, &b'd', &b'c')?;
+        check_form(&rt, Letters, b"\\*", 2, &b'*', &b'\\')?;
+        check_form(&rt, Letters, b"[(-)]", 5, &b')', &b'*')?;
+        check_form(&rt, Letters, b"[^^-^]", 6, &b'-', &b'^')?;
+        check_form(&rt, Letters, b"[]-]]", 5, &b']', &b'-')?;
+        check_form(&rt, Letters, b"ab", 1, &b'a', &b'b')?;
+        assert_eq!(rt; read(Letters, b"."), Some(Ok((range(0, 255), 1))));
         Ok(())
     }
 
@@ -149,11 +125,11 @@ mod tests {
             b"[z-a",
             b"\\",
         ] {
-            assert_eq!(rt; read(bytes), Some(Err(Cause::CutShort)));
+            assert_eq!(rt; read(Letters, bytes), Some(Err(Cause::CutShort)));
         }
         for bytes in [b"[ax".as_slice(), b"[a-zx", b"[^-^]", b"[^-a]"] {
-            assert_eq!(rt; read(bytes), Some(Err(Cause::UnknownForm)));
+            assert_eq!(rt; read(Letters, bytes), Some(Err(Cause::UnknownForm)));
         }
-        assert_eq!(rt; read(b"[z-a]"), Some(Err(Cause::OutOfRange)));
+        assert_eq!(rt; read(Letters, b"[z-a]"), Some(Err(Cause::OutOfRange)));
     }
 }

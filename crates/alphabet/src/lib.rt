@@ -1,21 +1,24 @@
 // Alphabets and notations, and the two that come with the shelf.
 #![tactic(auto)]
 
-ghost use Rattle.std.specs.Prelude.{◌≡◌, ℕ, Bool, List, Result, IfOk};
+ghost use Rattle.std.specs.Prelude.{◌≡◌, ℕ, Bool, List, Some, Result, IfOk};
 ghost use Rattle.alphabet.specs.declared.Cause.{Cause};
 ghost use Rattle.alphabet.specs.Signs.{is_sign, BeginsNoSign};
-ghost use Rattle.alphabet.specs.Causes.{cause_number};
+ghost use Rattle.alphabet.specs.Causes.{cause_number, cause_words};
 ghost use Rattle.alphabet.specs.Readings.{UsesSome};
+
+use std::error::Error;
+use std::fmt;
 
 pub mod letters;
 pub mod words;
 
 // Why bytes are not a test.
-#[derive(Clone, Copy, PartialEq, Debug)]
+#[derive(Clone, Copy, PartialEq, Eq, Debug)]
 pub enum Cause {
-    CutShort,
-    OutOfRange,
-    UnknownForm,
+    CutShort = 1,
+    OutOfRange = 2,
+    UnknownForm = 3,
 }
 
 impl Cause {
@@ -23,13 +26,30 @@ impl Cause {
     pub fn number(self) -> u8
         ensures { result ≡ cause_number self }
     {
+        self as u8
+    }
+
+    // The same in words.
+    pub fn words(self) -> &'static str
+        ensures { result.now ≡ cause_words self }
+    {
         match self {
-            Cause::CutShort => 1,
-            Cause::OutOfRange => 2,
-            Cause::UnknownForm => 3,
+            Cause::CutShort => "not a test: cut short",
+            Cause::OutOfRange => "not a test: out of range",
+            Cause::UnknownForm => "not a test: unknown form",
         }
     }
 }
+
+impl fmt::Display for Cause {
+    ghost output = { λ cause. Some (cause_words cause) };
+
+    fn fmt<W: fmt::Write>(&self, f: &mut fmt::Formatter<W>) -> fmt::Result {
+        f.write_str(self.words())
+    }
+}
+
+impl Error for Cause {}
 
 // Symbols, tests and a meaning: which symbols each test admits. A test is kept as a number, and the alphabet chooses its
 // numbers freely.
@@ -63,4 +83,40 @@ pub fn is_sign(byte: u8) -> bool
     ensures { result ≡ is_sign byte }
 {
     matches!(byte, b'|' | b'*' | b'+' | b'?' | b'(' | b')' | b'{' | b'}')
+}
+
+// How the tests of a notation ask it.
+#[cfg(test)]
+mod forms {
+    use super::{Cause, Notation, is_sign};
+    use std::process::Abort;
+    use std::test::Fail;
+
+    pub(crate) fn read<N: Notation + Drop>(
+        mut notation: N,
+        bytes: &[u8],
+    ) -> Option<Result<(u32, usize), Cause>> {
+        match bytes {
+            [first, ..] if !is_sign(*first) => Some(notation.read(bytes)),
+            _ => None,
+        }
+    }
+
+    // A form takes so many bytes, and admits the one symbol and not the other.
+    pub(crate) fn check_form<N: Notation + Copy>(
+        rt: &impl Abort,
+        notation: N,
+        form: &[u8],
+        used: usize,
+        inside: &N::Symbol,
+        outside: &N::Symbol,
+    ) -> Result<(), Fail> {
+        let Some(Ok((test, taken))) = read(notation, form) else {
+            return Err(Fail::new("no form"));
+        };
+        assert_eq!(rt; taken, used);
+        assert!(rt; notation.admits(test, inside));
+        assert!(rt; !notation.admits(test, outside));
+        Ok(())
+    }
 }

@@ -15,7 +15,8 @@ use crate::{Alphabet, Cause, Notation};
 // A code is this many times its kind, plus its entry.
 const ENTRIES: u32 = 65536;
 
-// The test of an entry is the entry's number, the test of a kind is the kind's number and this.
+// The test of an entry is the entry's number, the test of a kind is the kind's number and this. These are numbers and no
+// enum, since the trait has each alphabet keep a test as one number.
 const KINDS: u32 = 65536;
 
 // The test that admits every word.
@@ -34,6 +35,7 @@ pub struct Words;
 
 impl Words {
     // Words that read each form as what it admits, and refuse all else for its cause.
+    #[tactic(auto, using(crate::proofs::WordsRead::words_read_their_forms))]
     pub fn new() -> Words
         ensures reads_its_forms { WordsReadTheirForms }
     {
@@ -108,42 +110,17 @@ impl Notation for Words {
 #[cfg(test)]
 mod tests {
     use super::*;
-    use crate::is_sign;
-    use std::process::Abort;
+    use crate::forms::{check_form, read};
     use std::test::Fail;
-
-    fn read(bytes: &[u8]) -> Option<Result<(u32, usize), Cause>> {
-        match bytes {
-            [first, ..] if !is_sign(*first) => Some(Words::new().read(bytes)),
-            _ => None,
-        }
-    }
-
-    // A form takes so many bytes, and admits the one word and not the other.
-    fn check_form(
-        rt: &impl Abort,
-        form: &[u8],
-        used: usize,
-        inside: u32,
-        outside: u32,
-    ) -> Result<(), Fail> {
-        let Some(Ok((test, taken))) = read(form) else {
-            return Err(Fail::new("no form"));
-        };
-        assert_eq!(rt; taken, used);
-        assert!(rt; Words::new().admits(test, &inside));
-        assert!(rt; !Words::new().admits(test, &outside));
-        Ok(())
-    }
 
     #[test]
     fn forms(rt: HostRuntime) -> Result<(), Fail> {
-        check_form(&rt, b"#003;*", 5, 0x3_0007, 0x7_0003)?;
-        check_form(&rt, b"#0;", 3, 9, 0x1_0009)?;
-        check_form(&rt, b"#255;", 5, 0xff_0000, 0xfe_0000)?;
-        check_form(&rt, b"@7;", 3, 0x3_0007, 0x7_0003)?;
-        check_form(&rt, b"@65535;", 7, 0x3_ffff, 0x3_fffe)?;
-        assert_eq!(rt; read(b".."), Some(Ok((ANY, 1))));
+        check_form(&rt, Words, b"#003;*", 5, &0x3_0007, &0x7_0003)?;
+        check_form(&rt, Words, b"#0;", 3, &9, &0x1_0009)?;
+        check_form(&rt, Words, b"#255;", 5, &0xff_0000, &0xfe_0000)?;
+        check_form(&rt, Words, b"@7;", 3, &0x3_0007, &0x7_0003)?;
+        check_form(&rt, Words, b"@65535;", 7, &0x3_ffff, &0x3_fffe)?;
+        assert_eq!(rt; read(Words, b".."), Some(Ok((ANY, 1))));
         assert!(rt; Words::new().admits(ANY, &0xffff_ffff));
         Ok(())
     }
@@ -151,7 +128,7 @@ mod tests {
     #[test]
     fn faults(rt: HostRuntime) {
         for bytes in [b"#".as_slice(), b"#2", b"#999", b"@", b"@65536"] {
-            assert_eq!(rt; read(bytes), Some(Err(Cause::CutShort)));
+            assert_eq!(rt; read(Words, bytes), Some(Err(Cause::CutShort)));
         }
         for bytes in [
             b"#1000".as_slice(),
@@ -160,10 +137,10 @@ mod tests {
             b"@65536;",
             b"@100000",
         ] {
-            assert_eq!(rt; read(bytes), Some(Err(Cause::OutOfRange)));
+            assert_eq!(rt; read(Words, bytes), Some(Err(Cause::OutOfRange)));
         }
         for bytes in [b"#;".as_slice(), b"#x", b"#1x", b"@;", b"x"] {
-            assert_eq!(rt; read(bytes), Some(Err(Cause::UnknownForm)));
+            assert_eq!(rt; read(Words, bytes), Some(Err(Cause::UnknownForm)));
         }
     }
 }

@@ -1,10 +1,11 @@
 -- Sets of the tests that admit a symbol.
-use Rattle.std.proofs.Common.{◌≡◌, ℕ, zero, suc, ◌+◌, ◌-◌, ◌*◌, ◌/◌, ◌%◌, ◌^◌, ◌<◌, ◌≤◌, Bool, true, false, ◌&&◌, eqb, ltb, List, [], ◌∷◌, ◌++◌, length, sym, refl, ap, ◌∙◌, subst, inl, inr, arith}
+use Rattle.std.proofs.Common.{◌≡◌, ℕ, zero, suc, ◌+◌, ◌*◌, ◌/◌, ◌%◌, ◌^◌, ◌<◌, Bool, true, false, ◌&&◌, eqb, ltb, List, [], ◌∷◌, ◌++◌, length, get_or, take, get_or-take, sym, refl, ap, ◌∙◌, subst, inl, inr, arith}
 use lib.Bits.{bit_or}
 use Rattle.std.proofs.lemmas.Nat.{pow-add, shr-shr, div-mul-add, shl_whole, or_shifted}
 use Rattle.std.proofs.lemmas.Bool.{lt-ltb, le-ltb, eq-eqb, ne_eqb, cases_lt}
 use mir.Val.{bool_byte}
 use Rattle.automaton.specs.Bit.{bit}
+use Rattle.automaton.proofs.BitTests.{bit_none}
 use Rattle.asking.specs.RowTables.{RowOf, RowsOf}
 
 byte_small : (b : Bool) → bool_byte b < 2
@@ -35,21 +36,30 @@ row_before p n row r (suc k) =
     ∙ ap (λ b. b && p (k + 1)) (one_more k n)
     ∙ ap (λ j. ltb (suc k) (n + 1) && p j) (omega arith)
 
--- the row of the tests from k on, of n in all
-abbrev pub RowFrom : (ℕ → Bool) → ℕ → ℕ → ℕ → Type 0
-RowFrom p n k row = (k ≤ n) × (row < 2 ^ (n - k)) × RowOf (λ j. p (j + k)) (n - k) row
+-- the row of the codes of a list, all of which have a place in it
+abbrev pub RowOfCodes : (ℕ → Bool) → List ℕ → ℕ → Type 0
+RowOfCodes admits codes row = (row < 2 ^ length codes) × RowOf (λ k. admits (get_or codes k 0)) (length codes) row
 
--- one test further down
-pub row_further : (p : ℕ → Bool) (n k row : ℕ) (b : Bool) → n ≤ 64 → 0 < k → b ≡ p (k - 1) → RowFrom p n k row → RowFrom p n (k - 1) (bit_or ((row * 2) % 2 ^ 64) (bool_byte b))
-row_further p n k row b few up is (h, small, r) =
-    let m = n - k in
-    let q : ℕ → Bool = λ j. p (j + (k - 1)) in
-    let one : n - (k - 1) ≡ m + 1 = omega arith in
-    let sum : bit_or ((row * 2) % 2 ^ 64) (bool_byte b) ≡ row * 2 + bool_byte b = ap (λ x. bit_or x (bool_byte b)) (shl_whole row m 1 64 small (omega arith)) ∙ or_shifted row 1 (bool_byte b) (byte_small b) in
-    let power : 2 ^ (n - (k - 1)) ≡ 2 ^ m * 2 ^ 1 = ap (λ x. 2 ^ x) one ∙ pow-add 2 m 1 in
-    let rest : RowOf (λ j. q (j + 1)) m row = λ j. r j ∙ ap (λ i. ltb j m && p i) (omega arith) in
-    let same : row * 2 + bool_byte (q 0) ≡ bit_or ((row * 2) % 2 ^ 64) (bool_byte b) = ap (λ x. row * 2 + bool_byte x) (ap p (omega arith) ∙ sym is) ∙ sym sum in
-    (omega arith, omega (arith, sum, power, small, byte_small b), subst (λ x. RowOf q (n - (k - 1)) x) same (subst (λ i. RowOf q i (row * 2 + bool_byte (q 0))) (sym one) (row_before q m row rest)))
+pub no_codes : (admits : ℕ → Bool) → RowOfCodes admits [] 0
+no_codes admits = (omega arith, λ k. bit_none k ∙ sym (ap (λ b. b && admits (get_or [] k 0)) (le-ltb k 0 (omega arith))))
+
+-- one code before the others
+pub code_before : (admits : ℕ → Bool) (code : ℕ) (codes : List ℕ) (row : ℕ) → length codes < 64 → RowOfCodes admits codes row → RowOfCodes admits (code ∷ codes) (bit_or ((row * 2) % 2 ^ 64) (bool_byte (admits code)))
+code_before admits code codes row few (small, r) =
+    let m = length codes in
+    let b = bool_byte (admits code) in
+    let longer : length (code ∷ codes) ≡ m + 1 = omega arith in
+    let is : bit_or ((row * 2) % 2 ^ 64) b ≡ row * 2 + b = ap (λ x. bit_or x b) (shl_whole row m 1 64 small (omega arith)) ∙ or_shifted row 1 b (byte_small (admits code)) in
+    let power : 2 ^ length (code ∷ codes) ≡ 2 ^ m * 2 ^ 1 = ap (λ x. 2 ^ x) longer ∙ pow-add 2 m 1 in
+    let rest : RowOf (λ j. admits (get_or (code ∷ codes) (j + 1) 0)) m row = λ j. r j ∙ ap (λ i. ltb j m && admits (get_or (code ∷ codes) i 0)) (let e : suc j ≡ j + 1 = omega arith in e) in
+    (omega (arith, is, power, small, byte_small (admits code)), subst (λ x. RowOf (λ k. admits (get_or (code ∷ codes) k 0)) (length (code ∷ codes)) x) (sym is) (subst (λ n. RowOf (λ k. admits (get_or (code ∷ codes) k 0)) n (row * 2 + b)) (sym longer) (row_before (λ k. admits (get_or (code ∷ codes) k 0)) m row rest)))
+
+-- the row of the first codes of a list
+pub first_codes : (admits : ℕ → Bool) (n : ℕ) (codes : List ℕ) (row : ℕ) → length (take n codes) ≡ n → RowOfCodes admits (take n codes) row → RowOf (λ k. admits (get_or codes k 0)) n row
+first_codes admits n codes row long (small, r) k = r k ∙ ap (λ m. ltb k m && admits (get_or (take n codes) k 0)) long ∙ elim (cases_lt k n) [
+  | inl below ↦ ap (λ c. ltb k n && admits c) (get_or-take n codes k 0 below)
+  | inr above ↦ (let f = le-ltb k n above in ap (λ b. b && admits (get_or (take n codes) k 0)) f ∙ sym (ap (λ b. b && admits (get_or codes k 0)) f))
+]
 
 -- one symbol more
 pub rows_more : {S : Type 0} (p : ℕ → S → Bool) (n : ℕ) (line : List S) (rows : List ℕ) (s : S) (row : ℕ) → RowsOf p n line rows → RowOf (λ k. p k s) n row → RowsOf p n (line ++ (s ∷ [])) (rows ++ (row ∷ []))

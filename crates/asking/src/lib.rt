@@ -6,23 +6,17 @@ ghost use Rattle.automaton.specs.RowList.{rows_of};
 ghost use Rattle.asking.specs.RowTables.{RowOf, RowsOf};
 
 use alphabet::Alphabet;
-use automaton::Rows;
-
-// A set of positions has room for so many tests.
-const MOST_TESTS: usize = 64;
-
-// A line has at most so many symbols.
-const MOST_SYMBOLS: usize = 160;
+use automaton::{MOST_SYMBOLS, POSITIONS, Rows};
 
 /// The tests that admit a symbol, as a set of positions: bit k stands for the test of the code k. Of more than 64 codes the first 64
 /// are asked.
 pub fn row<A: Alphabet>(alphabet: &A, codes: &[u32], symbol: &A::Symbol) -> u64
     ensures { RowOf (λ k. A.Alphabet.meaning alphabet.now (slice_index codes.now k) symbol.now) (min 64 (length codes.now)) result }
 {
-    let count = codes.len().min(MOST_TESTS);
+    let asked = &codes[..codes.len().min(POSITIONS)];
     let mut admitted = 0;
-    for k in (0..count).rev() {
-        admitted = admitted << 1 | u64::from(alphabet.admits(codes[k], symbol));
+    for code in asked.iter().rev() {
+        admitted = admitted << 1 | u64::from(alphabet.admits(*code, symbol));
     }
     admitted
 }
@@ -35,7 +29,7 @@ pub fn rows<A: Alphabet>(alphabet: &A, codes: &[u32], line: &[A::Symbol]) -> Opt
         return None;
     }
     let mut rows = Rows::new();
-    for (i, symbol) in line.iter().enumerate() {
+    for symbol in line {
         let _ = rows.push(row(alphabet, codes, symbol));
     }
     Some(rows)

@@ -2,9 +2,10 @@
 use Rattle.std.proofs.Common.{◌≡◌, ℕ, zero, suc, ◌+◌, ◌-◌, ◌*◌, ◌/◌, ◌%◌, ◌^◌, ◌<◌, ◌≤◌, ◌⊎◌, sym, refl, ap, ◌∙◌, subst, inl, inr, one-mul, pow-suc, one-add, arith, pow_mono}
 use lib.Bits.{bit_and, bit_or, bit_xor, and_zero_l, and_zero_r, or_zero_l, xor_add_and}
 use lib.Count.{count_trailing_zeros, under}
-use Rattle.std.proofs.lemmas.Nat.{pow_pos, div_below, shr-shr, and_shr, or_shr, xor_shr, and_mod, or_mod, xor_mod, and_mask, or_lt, pow-add, pow_below, shl-shr, one_shl}
+use Rattle.std.proofs.lemmas.Nat.{pow_pos, div_below, shr-shr, and_shr, or_shr, xor_shr, and_mod, or_mod, xor_mod, and_mask, or_lt, pow-add, pow_below, shl-shr}
 use Rattle.std.proofs.lemmas.Bool.{cases_eq, cases_lt}
 use Rattle.automaton.specs.Bit.{In}
+use Rattle.automaton.specs.PositionSets.{Lowest}
 
 abbrev bit : ℕ → ℕ → ℕ
 bit x k = (x / 2 ^ k) % 2
@@ -166,10 +167,14 @@ rest_above x k p h e =
       | inr f ↦ (let l = least 64 x k p h b.0.is in omega (arith, l, f))
     ]
 
+under_pow : (x : ℕ) → x < 2 ^ x
+under_pow zero = omega arith
+under_pow (suc x) = omega (arith, under_pow x, pow-suc 2 x)
+
 -- a number with no bit is 0
-pub some_in : (x : ℕ) → x < 2 ^ 64 → (x ≡ 0) ⊎ ((k : ℕ) × In x k)
-some_in zero h = inl refl
-some_in (suc x) h = inr (count_trailing_zeros 64 (suc x), low_in (suc x) (omega arith) h)
+pub some_in : (x : ℕ) → (x ≡ 0) ⊎ ((k : ℕ) × In x k)
+some_in zero = inl refl
+some_in (suc x) = inr (count_trailing_zeros (suc x) (suc x), record { is = low_set (suc x) (suc x) (omega arith) (under_pow (suc x)) })
 
 pub in_below : {x k : ℕ} → x < 2 ^ 64 → In x k → k < 64
 in_below {x = x} {k = k} h e = elim (cases_lt k 64) [
@@ -185,6 +190,16 @@ low_below x p h = in_below h (low_in x p h)
 
 pub or_below : {x y : ℕ} → x < 2 ^ 64 → y < 2 ^ 64 → bit_or x y < 2 ^ 64
 or_below {x = x} {y = y} h g = or_lt 64 x y h g
+
+-- the lowest bit as a position, and the set without it
+pub lowest_of : (x : ℕ) → 0 < x → x < 2 ^ 64 → Lowest x (count_trailing_zeros 64 x) (bit_and x (x - 1))
+lowest_of x p h = record {
+  below = low_below x p h;
+  one = low_in x p h;
+  each = λ q e. rest_in x q p h e;
+  others = λ q e. (in_and {x = x} {y = x - 1} e).0;
+  above = λ q e. rest_above x q p h e;
+}
 
 -- ---- a set of one position
 pub one_in : (k : ℕ) → In (2 ^ k) k
@@ -211,13 +226,3 @@ in_one k j e = elim (cases_lt j k) [
     | inr g ↦ omega arith
   ]
 ]
-
-pub one_below : (k : ℕ) → k < 64 → 2 ^ k < 2 ^ 64
-one_below k h = pow_below k 64 h
-
--- the same of `1 << k`
-pub shl_in : (k : ℕ) → k < 64 → In ((1 * 2 ^ k) % 2 ^ 64) k
-shl_in k h = subst (λ n. In n k) (sym (one_shl k 64 h)) (one_in k)
-
-pub in_shl : (k j : ℕ) → k < 64 → In ((1 * 2 ^ k) % 2 ^ 64) j → j ≡ k
-in_shl k j h e = in_one k j (subst (λ n. In n j) (one_shl k 64 h) e)

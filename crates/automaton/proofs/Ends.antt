@@ -1,12 +1,15 @@
 -- What the groups say of the stretches.
-use Rattle.std.proofs.Common.{◌≡◌, ℕ, ◌+◌, ◌-◌, ◌^◌, ◌<◌, ◌≤◌, true, false, List, [], ◌∷◌, length, get_or, sym, refl, ap, ◌∙◌, subst, inl, inr, arith}
-use lib.Bits.{bit_and, and_le_l}
-use Rattle.std.proofs.lemmas.Bool.{cases_eq, cases_lt}
+use Rattle.std.proofs.Common.{◌≡◌, ℕ, ◌+◌, ◌-◌, ◌<◌, ◌≤◌, ◌⊎◌, true, false, Bool, cond, ltb, Option, Some, None, IfSome, MatchOption, true≢false, List, [], ◌∷◌, length, get_or, take, length-take, get_or-take, sym, refl, ap, ◌∙◌, subst, inl, inr, arith}
+use lib.Bits.{bit_and, and_zero_l}
+use Rattle.std.specs.List.{AllWithin, HoldsAt}
+use Rattle.std.proofs.lemmas.List.{get_or_past}
+use Rattle.std.proofs.lemmas.Bool.{cases_eq, cases_lt, lt-ltb, le-ltb}
 use Rattle.automaton.specs.declared.machine.Automaton.{Automaton}
 use Rattle.automaton.specs.declared.sweep.Active.{Active}
 use Rattle.automaton.specs.Bit.{In}
-use Rattle.automaton.specs.Reads.{Path, Walk, Admits, Reads, Ahead}
-use Rattle.automaton.specs.Tracks.{After, begin, step, Ends, empty, walk, Tracks, Earliest}
+use Rattle.automaton.specs.Reads.{Path, Walk, Admits, Reads}
+use Rattle.automaton.specs.Stretches.{Ahead, Longest, NoneReads}
+use Rattle.automaton.specs.Tracks.{After, begin, step, Ends, empty, walk, Tracks, First, Earliest}
 use Rattle.automaton.proofs.Bits.{in_and, and_in, in_zero, some_in}
 use Rattle.automaton.proofs.Turns.{later}
 
@@ -36,9 +39,10 @@ abbrev pub Idle : Automaton → Active → ℕ → Type 0
 Idle a g k = (j q : ℕ) → j < k → In (get_or g.sets j 0) q → In a.last q → ⊥
 
 module _ (a : Automaton) (rows : List ℕ) (r : ℕ) (g : Active) (tr : Tracks a rows r g) where
-  pub ends_at : (k q : ℕ) → k < g.count → Idle a g k → In (get_or g.sets k 0) q → In a.last q → Earliest a rows r (get_or g.starts k 0)
+  pub ends_at : (k q : ℕ) → k < g.count → Idle a g k → In (get_or g.sets k 0) q → In a.last q → First a rows r (get_or g.starts k 0)
   ends_at k q hk idle e f = record {
-    reads = λ h. walk q (tr.sound k q hk e) f;
+    below = tr.begun k hk;
+    reads = walk q (tr.sound k q hk e) f;
     first = λ l h w. first l h w;
   } where
     first : (l : ℕ) → l < r → Ends a rows l r → get_or g.starts k 0 ≤ l
@@ -54,8 +58,8 @@ module _ (a : Automaton) (rows : List ℕ) (r : ℕ) (g : Active) (tr : Tracks a
         ]
 
 -- a group with a last position, and one with none
-pub has_last : (x y : ℕ) → x < 2 ^ 64 → (bit_and x y ≡ 0 → ⊥) → (q : ℕ) × In x q × In y q
-has_last x y h f = elim (some_in (bit_and x y) (omega (arith, and_le_l x y))) [
+pub has_last : (x y : ℕ) → (bit_and x y ≡ 0 → ⊥) → (q : ℕ) × In x q × In y q
+has_last x y f = elim (some_in (bit_and x y)) [
   | inl z ↦ absurd (f z)
   | inr p ↦ (let b = in_and {x = x} {y = y} p.1 in (p.0, b.0, b.1))
 ]
@@ -63,63 +67,140 @@ has_last x y h f = elim (some_in (bit_and x y) (omega (arith, and_le_l x y))) [
 pub has_none : (x y q : ℕ) → bit_and x y ≡ 0 → In x q → In y q → ⊥
 has_none x y q z e f = in_zero (subst (λ n. In n q) z (and_in e f))
 
--- the stretch l to r is ahead of all that read and end by i
-pub record Best (a : Automaton) (rows : List ℕ) (i l r : ℕ) : Type 0 where
-  pub ordered : l ≤ r
-  pub within : r ≤ i
-  pub reads : l < r → Ends a rows l r
-  pub nought : r ≤ l → r ≡ 0
-  pub ahead : (m s : ℕ) → m < s → s ≤ i → Ends a rows m s → Ahead (l, r) (m, s)
+-- x reads, ends by i, and is ahead of all stretches that read and end by i
+pub record Head (a : Automaton) (rows : List ℕ) (i : ℕ) (x : ℕ × ℕ) : Type 0 where
+  pub ordered : x.0 ≤ x.1
+  pub within : x.1 ≤ i
+  pub reads : Ends a rows x.0 x.1
+  pub ahead : (m s : ℕ) → s ≤ i → Ends a rows m s → Ahead x (m, s)
+
+-- the best of the stretches that read and end by i, or `None` where there is none
+abbrev pub Best : Automaton → List ℕ → ℕ → Option (ℕ × ℕ) → Type 0
+Best a rows i None = (m s : ℕ) → s ≤ i → Ends a rows m s → ⊥
+Best a rows i (Some x) = Head a rows i x
 
 module _ (a : Automaton) (rows : List ℕ) where
-  module _ (i l r e : ℕ) (b : Best a rows i l r) (x : Earliest a rows (i + 1) e) (up : e ≤ i + 1) where
-    pub best_more : r - l < i + 1 - e → Best a rows (i + 1) e (i + 1)
-    best_more h = record {
-      ordered = up;
+  -- a stretch that reads is empty or not
+  shape : (m s : ℕ) → Ends a rows m s → ((m ≡ s) × (a.nullable ≡ true)) ⊎ (m < s)
+  shape m s (empty e n z) = inl (e, z)
+  shape m s (walk q w v) = inr (later a rows m s q w).0
+
+  pub inside : (m s : ℕ) → Ends a rows m s → s ≤ length rows
+  inside m s (empty e n z) = n
+  inside m s (walk q w v) = (later a rows m s q w).1
+
+  pub best_begun : (b : Bool) → a.nullable ≡ b → Best a rows 0 (cond b (Some (0, 0)) None)
+  best_begun true z = record {
+    ordered = omega arith;
+    within = omega arith;
+    reads = empty refl (omega arith) z;
+    ahead = λ m s h w. inr (omega arith, omega arith);
+  }
+  best_begun false f = λ m s h w. elim (shape m s w) [ inl y ↦ true≢false (sym y.1 ∙ f) | inr y ↦ omega arith ]
+
+  -- one symbol more, at which no stretch ends but empty ones
+  pub best_none : (i : ℕ) (o : Option (ℕ × ℕ)) → Best a rows i o → Earliest a rows (i + 1) None → Best a rows (i + 1) o
+  best_none i None b n = λ m s h w. elim (shape m s w) [
+    | inl y ↦ b 0 0 (omega arith) (empty refl (omega arith) y.1)
+    | inr y ↦ elim (cases_lt i s) [
+      | inl new ↦ (let is : s ≡ i + 1 = omega arith in n m (omega arith) (subst (λ n. Ends a rows m n) is w))
+      | inr old ↦ b m s old w
+    ]
+  ]
+  best_none i (Some x) b n = record {
+    ordered = b.ordered;
+    within = omega (arith, b.within);
+    reads = b.reads;
+    ahead = λ m s h w. elim (cases_lt i s) [
+      | inl new ↦
+          (let is : s ≡ i + 1 = omega arith in
+          elim (shape m s w) [
+            | inl y ↦ elim (cases_lt x.0 x.1) [ inl z ↦ inl (omega (arith, y.0)) | inr z ↦ inr (omega (arith, y.0), omega (arith, y.0, b.within, b.ordered)) ]
+            | inr y ↦ absurd (n m (omega arith) (subst (λ n. Ends a rows m n) is w))
+          ])
+      | inr old ↦ b.ahead m s old w
+    ];
+  }
+
+  module _ (i e : ℕ) (f : First a rows (i + 1) e) where
+    -- a stretch that ends at the new symbol and is longer than those before
+    longest_new : ((m s : ℕ) → s ≤ i → Ends a rows m s → s - m < i + 1 - e) → Head a rows (i + 1) (e, i + 1)
+    longest_new h = record {
+      ordered = omega (arith, f.below);
       within = omega arith;
-      reads = λ g. x.reads g;
-      nought = λ g. absurd (omega arith);
-      ahead = λ m s g k w. elim (cases_lt i s) [
+      reads = f.reads;
+      ahead = λ m s k w. elim (cases_lt i s) [
         | inl new ↦
             (let is : s ≡ i + 1 = omega arith in
-            let low = x.first m (omega arith) (subst (λ n. Ends a rows m n) is w) in
-            elim (cases_lt e m) [ inl y ↦ inl (omega arith) | inr y ↦ inr (omega arith, low) ])
-        | inr old ↦ elim (b.ahead m s g old w) [ inl y ↦ inl (omega arith) | inr y ↦ inl (omega (arith, y.0)) ]
+            elim (shape m s w) [
+              | inl y ↦ inl (omega (arith, y.0, f.below))
+              | inr y ↦
+                  (let low = f.first m (omega arith) (subst (λ n. Ends a rows m n) is w) in
+                  elim (cases_lt e m) [ inl z ↦ inl (omega arith) | inr z ↦ inr (omega arith, low) ])
+            ])
+        | inr old ↦ inl (h m s old w)
       ];
     }
 
-    pub best_same : i + 1 - e ≤ r - l → Best a rows (i + 1) l r
-    best_same h = record {
-      ordered = b.ordered;
-      within = omega (arith, b.within);
-      reads = b.reads;
-      nought = b.nought;
-      ahead = λ m s g k w. elim (cases_lt i s) [
-        | inl new ↦
-            (let is : s ≡ i + 1 = omega arith in
-            let low = x.first m (omega arith) (subst (λ n. Ends a rows m n) is w) in
-            elim (cases_lt (s - m) (r - l)) [ inl y ↦ inl y | inr y ↦ inr (omega arith, omega (arith, b.within, b.ordered)) ])
-        | inr old ↦ b.ahead m s g old w
-      ];
-    }
+    -- one symbol more, at which e is the least start
+    pub best_some : (o best : Option (ℕ × ℕ)) → Best a rows i o → MatchOption o (best ≡ Some (e, i + 1)) (λ x. best ≡ cond (ltb (x.1 - x.0) (i + 1 - e)) (Some (e, i + 1)) (Some x)) → Best a rows (i + 1) best
+    best_some None best b is = subst (Best a rows (i + 1)) (sym is) (longest_new (λ m s h w. absurd (b m s h w)))
+    best_some (Some x) best b is = subst (Best a rows (i + 1)) (sym is) (elim (cases_lt (x.1 - x.0) (i + 1 - e)) [
+      | inl l ↦ subst (λ c. Best a rows (i + 1) (cond c (Some (e, i + 1)) (Some x))) (sym (lt-ltb (x.1 - x.0) (i + 1 - e) l)) (longest_new (λ m s h w. elim (b.ahead m s h w) [ inl y ↦ omega (arith, y) | inr y ↦ omega (arith, y.0) ]))
+      | inr g ↦ subst (λ c. Best a rows (i + 1) (cond c (Some (e, i + 1)) (Some x))) (sym (le-ltb (x.1 - x.0) (i + 1 - e) g)) (record {
+        ordered = b.ordered;
+        within = omega (arith, b.within);
+        reads = b.reads;
+        ahead = λ m s h w. elim (cases_lt i s) [
+          | inl new ↦
+              (let is : s ≡ i + 1 = omega arith in
+              elim (shape m s w) [
+                | inl y ↦ elim (cases_lt x.0 x.1) [ inl z ↦ inl (omega (arith, y.0)) | inr z ↦ inr (omega (arith, y.0), omega (arith, y.0, b.within, b.ordered)) ]
+                | inr y ↦
+                    (let low = f.first m (omega arith) (subst (λ n. Ends a rows m n) is w) in
+                    elim (cases_lt (s - m) (x.1 - x.0)) [ inl z ↦ inl z | inr z ↦ inr (omega arith, omega (arith, b.within, b.ordered)) ])
+              ])
+          | inr old ↦ b.ahead m s old w
+        ];
+      })
+    ])
 
-  -- the empty stretch at the line's start
-  pub blank : a.nullable ≡ true → Ends a rows 0 0
-  blank z = empty refl (omega arith) z
+  -- all symbols are read
+  pub best_of : (i : ℕ) (o : Option (ℕ × ℕ)) → length rows ≤ i → Best a rows i o → MatchOption o (NoneReads (Reads a rows)) (λ x. Longest (Reads a rows) x)
+  best_of i None all b = λ m s w. (let e = ends a rows m s w in b m s (omega (arith, inside m s e)) e)
+  best_of i (Some x) all b = record {
+    reads = reads a rows x.0 x.1 b.reads;
+    ahead = λ m s w. (let e = ends a rows m s w in b.ahead m s (omega (arith, inside m s e)) e);
+  }
 
-  module _ (i l r : ℕ) (b : Best a rows i l r) (all : length rows ≤ i) where
-    pub longer : l < r → (m s : ℕ) → Ends a rows m s → Ahead (l, r) (m, s)
-    longer h m s (empty e n z) = inl (omega arith)
-    longer h m s (walk q w v) = let k = later a rows m s q w in b.ahead m s k.0 (omega (arith, k.1)) (walk q w v)
+-- the same of the automaton and the line of a sweep
+pub earliest_of : (a b : Automaton) (rows line : List ℕ) (i j : ℕ) (o : Option ℕ) → a ≡ b → rows ≡ line → i ≡ j → Earliest a rows i o → Earliest b line j o
+earliest_of a b rows line i j o ea er ei w = subst (λ x. Earliest x line j o) ea (subst (λ x. Earliest a x j o) er (subst (λ x. Earliest a rows x o) ei w))
 
-    pub shorter : r ≤ l → (m s : ℕ) → Ends a rows m s → Ahead (0, 0) (m, s)
-    shorter h m s (empty e n z) = inr (omega arith, omega arith)
-    shorter h m s (walk q w v) =
-        let k = later a rows m s q w in
-        elim (b.ahead m s k.0 (omega (arith, k.1)) (walk q w v)) [ inl y ↦ absurd (omega arith) | inr y ↦ absurd (omega (arith, y.0, k.0)) ]
+pub best_ordered : (a : Automaton) (rows : List ℕ) (i : ℕ) (o : Option (ℕ × ℕ)) → Best a rows i o → IfSome o (λ x. x.0 ≤ x.1)
+best_ordered a rows i None b = tt
+best_ordered a rows i (Some x) b = b.ordered
 
-    pub silent : r ≤ l → a.nullable ≡ false → (m s : ℕ) → Ends a rows m s → ⊥
-    silent h f m s (empty e n z) = let bad : true ≡ false = sym z ∙ f in let z : ◌≡◌ {A = ℕ} 0 1 = cc in omega arith
-    silent h f m s (walk q w v) =
-        let k = later a rows m s q w in
-        elim (b.ahead m s k.0 (omega (arith, k.1)) (walk q w v)) [ inl y ↦ omega arith | inr y ↦ omega (arith, y.0, k.0) ]
+-- the first group with a last position has the least start, and where there is none, no stretch ends but empty ones
+module _ (a : Automaton) (rows : List ℕ) (r : ℕ) (g : Active) (tr : Tracks a rows r g) where
+  first_group : (k : ℕ) → k < g.count → (bit_and (get_or g.sets k 0) a.last ≡ 0 → ⊥) → ((j : ℕ) → j < k → bit_and (get_or g.sets j 0) a.last ≡ 0) → First a rows r (get_or g.starts k 0)
+  first_group k hk some none =
+      let q = has_last (get_or g.sets k 0) a.last some in
+      ends_at a rows r g tr k q.0 hk (λ j q l e f. has_none (get_or g.sets j 0) a.last q (none j l) e f) q.1 q.2
+
+  no_group : ((j : ℕ) → j < g.count → bit_and (get_or g.sets j 0) a.last ≡ 0) → Earliest a rows r None
+  no_group none l h (empty s n z) = omega arith
+  no_group none l h (walk p w v) = let m = tr.complete l p w in has_none (get_or g.sets m.0 0) a.last p (none m.0 m.1) m.3 v
+
+  pub found : (o : Option ℕ)
+      → MatchOption o (AllWithin (λ s. bit_and s a.last ≡ 0) (take g.count g.sets) 0 (length (take g.count g.sets)))
+      (λ i. (i < length (take g.count g.sets)) × HoldsAt (λ s. bit_and s a.last ≡ 0 → ⊥) (take g.count g.sets) i × AllWithin (λ s. bit_and s a.last ≡ 0) (take g.count g.sets) 0 i)
+      → MatchOption o (Earliest a rows r None) (λ k. First a rows r (get_or g.starts k 0))
+  found None h =
+      no_group (λ j l. elim (cases_lt j (length (take g.count g.sets))) [
+        | inl b ↦ subst (λ s. bit_and s a.last ≡ 0) (get_or-take g.count g.sets j 0 l) (h j 0 (omega arith) b)
+        | inr b ↦ (let past : get_or g.sets j 0 ≡ 0 = get_or_past g.sets j 0 (omega (arith, length-take g.count g.sets)) in ap (λ s. bit_and s a.last) past ∙ and_zero_l a.last)
+      ])
+  found (Some k) h =
+      let hk : k < g.count = omega (arith, length-take g.count g.sets, h.0) in
+      first_group k hk (subst (λ s. bit_and s a.last ≡ 0 → ⊥) (get_or-take g.count g.sets k 0 hk) (h.1 0)) (λ j l. subst (λ s. bit_and s a.last ≡ 0) (get_or-take g.count g.sets j 0 (omega arith)) (h.2 j 0 (omega arith) l))

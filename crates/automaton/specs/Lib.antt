@@ -1,5 +1,6 @@
 pub mod Bit
+pub mod PositionSets
 pub mod RowList
 pub mod Reads
-pub mod Marked
+pub mod Stretches
 pub mod Tracks

@@ -1,6 +1,6 @@
 -- What an automaton reads of a line, of which only the rows are known: row k is the set of the positions that admit the symbol k.
 -- A stretch of the line goes from a symbol l up to a symbol r, without r; the empty one has l ≡ r.
-use Rattle.std.specs.Prelude.{◌≡◌, ℕ, ◌+◌, ◌-◌, ◌<◌, ◌≤◌, true, ◌⊎◌, List, [], ◌∷◌, length, slice_index}
+use Rattle.std.specs.Prelude.{◌≡◌, ℕ, ◌+◌, ◌<◌, ◌≤◌, true, List, [], ◌∷◌, length, slice_index}
 use Rattle.automaton.specs.declared.machine.Automaton.{Automaton}
 use Rattle.automaton.specs.Bit.{In}
 
@@ -24,15 +24,3 @@ pub record Reads (a : Automaton) (rows : List ℕ) (l r : ℕ) : Type 0 where
   pub positions : List ℕ
   pub walks : Walk a positions
   pub admits : Admits rows l r positions
-
--- the stretch x comes before the stretch y, or is it: it is longer, or as long and no further right
-abbrev pub Ahead : ℕ × ℕ → ℕ × ℕ → Type 0
-Ahead x y = (y.1 - y.0 < x.1 - x.0) ⊎ ((y.1 - y.0 ≡ x.1 - x.0) × (x.0 ≤ y.0))
-
--- the stretch x reads, and comes before every other that reads
-abbrev pub Longest : Automaton → List ℕ → ℕ × ℕ → Type 0
-Longest a rows x = Reads a rows x.0 x.1 × ((l r : ℕ) → Reads a rows l r → Ahead x (l, r))
-
--- no stretch reads
-abbrev pub Silent : Automaton → List ℕ → Type 0
-Silent a rows = (l r : ℕ) → Reads a rows l r → ⊥

@@ -1,7 +1,8 @@
 -- What the functions of the sweep keep from symbol to symbol.
-use Rattle.std.specs.Prelude.{◌≡◌, ℕ, ◌+◌, ◌<◌, ◌≤◌, true, List, length, slice_index}
+use Rattle.std.specs.Prelude.{◌≡◌, ℕ, ◌+◌, ◌<◌, ◌≤◌, true, List, length, Option, Some, None, slice_index}
 use Rattle.automaton.specs.declared.machine.Automaton.{Automaton}
 use Rattle.automaton.specs.declared.sweep.Active.{Active}
+use Rattle.automaton.specs.declared.sweep.Sweep.{Sweep}
 use Rattle.automaton.specs.Bit.{In}
 
 -- a walk that begins at the symbol l has the position q at the last of the symbols before i
@@ -14,10 +15,16 @@ pub data Ends (a : Automaton) (rows : List ℕ) (l r : ℕ) : Type 0 where
   empty : l ≡ r → r ≤ length rows → a.nullable ≡ true → Ends a rows l r
   walk : (q : ℕ) → After a rows l r q → In a.last q → Ends a rows l r
 
--- e is the least start of a stretch to r that is not empty and reads, or r or more where there is none
-pub record Earliest (a : Automaton) (rows : List ℕ) (r e : ℕ) : Type 0 where
-  pub reads : e < r → Ends a rows e r
+-- e is the least start of a stretch to r that is not empty and reads
+pub record First (a : Automaton) (rows : List ℕ) (r e : ℕ) : Type 0 where
+  pub below : e < r
+  pub reads : Ends a rows e r
   pub first : (l : ℕ) → l < r → Ends a rows l r → e ≤ l
+
+-- that start, or `None` where no stretch to r that is not empty reads
+abbrev pub Earliest : Automaton → List ℕ → ℕ → Option ℕ → Type 0
+Earliest a rows r None = (l : ℕ) → l < r → Ends a rows l r → ⊥
+Earliest a rows r (Some e) = First a rows r e
 
 -- the groups after i symbols: rising starts, each with positions that a walk from it has reached, and each position that is reached
 -- from some start is in the group of that start or of an earlier one; no position is in two groups
@@ -28,3 +35,7 @@ pub record Tracks (a : Automaton) (rows : List ℕ) (i : ℕ) (g : Active) : Typ
   pub sound : (k q : ℕ) → k < g.count → In (slice_index g.sets k) q → After a rows (slice_index g.starts k) i q
   pub complete : (l q : ℕ) → After a rows l i q → (k : ℕ) × (k < g.count) × (slice_index g.starts k ≤ l) × In (slice_index g.sets k) q
   pub apart : (j k q : ℕ) → j < k → k < g.count → In (slice_index g.sets j) q → In (slice_index g.sets k) q → ⊥
+
+-- the groups of a sweep are those after the symbols that it has read
+abbrev pub Swept : Sweep → Type 0
+Swept s = Tracks s.automaton.now s.rows.now s.read s.active

@@ -6,11 +6,19 @@
 #![tactic(auto)]
 
 pub mod machine;
+pub mod positions;
 pub mod rows;
 mod sweep;
 
 pub use machine::Automaton;
+pub use positions::Positions;
 pub use rows::Rows;
+
+/// An automaton has so many positions, and a set of positions is a number of so many bits.
+pub const POSITIONS: usize = 64;
+
+/// A line has at most so many symbols.
+pub const MOST_SYMBOLS: usize = 160;
 
 #[cfg(test)]
 mod tests {
@@ -35,6 +43,16 @@ mod tests {
             let _ = rows.push(if *c == b'b' { 3 } else { 0 });
         }
         rows
+    }
+
+    #[test]
+    fn positions_from_the_lowest_up(rt: HostRuntime) {
+        let mut positions = Positions::of(1 << 63 | 0b1010);
+        assert_eq!(rt; positions.next(), Some(1));
+        assert_eq!(rt; positions.next(), Some(3));
+        assert_eq!(rt; positions.next(), Some(63));
+        assert_eq!(rt; positions.next(), None);
+        assert_eq!(rt; positions.next(), None);
     }
 
     #[test]

@@ -1,33 +1,34 @@
-ghost use Rattle.std.specs.Prelude.{◌≡◌, ℕ, ◌+◌, ◌<◌, ◌≤◌, length, MatchOption, slice_index};
+ghost use Rattle.std.specs.Prelude.{◌≡◌, ℕ, ◌+◌, ◌<◌, ◌≤◌, length, MatchOption, IfSome, Some, None, if◌then◌else◌, nat_lt, ◌-◌, slice_index, slice_index_or};
 ghost use Rattle.automaton.specs.Bit.{In};
 ghost use Rattle.automaton.specs.RowList.{rows_of};
-ghost use Rattle.automaton.specs.Reads.{Longest, Silent};
-ghost use Rattle.automaton.specs.Marked.{Marks};
-ghost use Rattle.automaton.specs.Tracks.{Tracks, Earliest};
+ghost use Rattle.automaton.specs.Reads.{Reads};
+ghost use Rattle.automaton.specs.Stretches.{Longest, NoneReads, Marks};
 
+use crate::MOST_SYMBOLS;
 use crate::machine::Automaton;
+use crate::positions::Positions;
 use crate::rows::Rows;
 
 // The positions that walks have reached, in groups by the start of the walk. A position that is reached from several starts stands in
 // the group of the least, so the groups have no position in common.
+// Two arrays and a count for speed: an `ArrayVec` of groups took twice as long on `opt160` of `bench`, an array of groups a tenth longer.
 #[derive(Drop)]
 struct Active {
     count: usize,
-    starts: [u8; 160],
-    sets: [u64; 160],
+    starts: [u8; MOST_SYMBOLS],
+    sets: [u64; MOST_SYMBOLS],
 }
 
-impl Active {
-    // No group: what there is before the first symbol.
-    fn new() -> Active
-        ensures { result.count ≡ 0 }
-    {
-        Active {
-            count: 0,
-            starts: [0; 160],
-            sets: [0; 160],
-        }
-    }
+// A sweep over the rows of a line, with the groups after the symbols that are read. That they are these is `Swept`, a clause and no
+// ghost field: it holds walks, and a ghost field holds no data.
+#[derive(Drop)]
+struct Sweep<'a> {
+    automaton: &'a Automaton,
+    rows: &'a [u64],
+    read: usize,
+    active: Active,
+    ghost short: { length rows.now ≤ 160 },
+    ghost within: { read ≤ length rows.now },
 }
 
 // The positions that may follow one of a set.
@@ -36,111 +37,146 @@ fn onward(follow: &[u64; 64], positions: u64) -> u64
     ensures complete { (p q : ℕ) → In positions p → In (slice_index follow.now p) q → In result q }
 {
     let mut out = 0;
-    let mut rest = positions;
-    while rest != 0 {
-        let p = rest.trailing_zeros() as usize;
+    for p in Positions::of(positions) {
         out |= follow[p];
-        rest &= rest - 1;
     }
     out
 }
 
-// The groups after the symbol i too.
-fn advance(a: &Automaton, rows: &[u64], i: usize, g: &mut Active)
-    requires within { i < length rows.now }
-    requires short { length rows.now ≤ 160 }
-    requires tracks { Tracks a.now rows.now i g.old }
-    ensures { Tracks a.now rows.now (i + 1) g.new }
-{
-    let row = rows[i];
-    let mut taken = 0;
-    let mut live = 0;
-    for k in 0..g.count {
-        let start = g.starts[k];
-        let next = onward(&a.follow, g.sets[k]) & row & !taken;
-        if next != 0 {
-            taken |= next;
-            g.starts[live] = start;
-            g.sets[live] = next;
+impl<'a> Sweep<'a> {
+    ghost use Rattle.automaton.specs.Tracks.{Swept, Earliest};
+
+    // Nothing is read, and there is no group.
+    fn new(automaton: &'a Automaton, rows: &'a [u64]) -> Sweep<'a>
+        requires { length rows.now ≤ 160 }
+        ensures begun { (result.automaton.now ≡ automaton.now) × (result.rows.now ≡ rows.now) × (result.read ≡ 0) }
+        ensures swept { Swept result }
+    {
+        Sweep {
+            automaton,
+            rows,
+            read: 0,
+            active: Active {
+                count: 0,
+                starts: [0; MOST_SYMBOLS],
+                sets: [0; MOST_SYMBOLS],
+            },
+        }
+    }
+
+    // Reads the next symbol.
+    fn advance(&mut self)
+        requires more { self.old.read < length self.old.rows.now }
+        requires swept { Swept self.old }
+        ensures next { (self.new.automaton ≡ self.old.automaton) × (self.new.rows ≡ self.old.rows) × (self.new.read ≡ self.old.read + 1) }
+        ensures swept { Swept self.new }
+    {
+        let row = self.rows[self.read];
+        let follow = &self.automaton.follow;
+        let groups = &mut self.active;
+        let mut taken = 0;
+        let mut live = 0;
+        // By index, since the groups that stay are written over those that are read.
+        for k in 0..groups.count {
+            let start = groups.starts[k];
+            let next = onward(follow, groups.sets[k]) & row & !taken;
+            if next != 0 {
+                taken |= next;
+                groups.starts[live] = start;
+                groups.sets[live] = next;
+                live += 1;
+            }
+        }
+        let fresh = self.automaton.first & row & !taken;
+        if fresh != 0 {
+            groups.starts[live] = self.read as u8;
+            groups.sets[live] = fresh;
             live += 1;
         }
+        groups.count = live;
+        self.read += 1;
     }
-    let fresh = a.first & row & !taken;
-    if fresh != 0 {
-        g.starts[live] = i as u8;
-        g.sets[live] = fresh;
-        live += 1;
+
+    // Reads the next symbol, and answers the least start of a stretch that ends after it and reads. In line in both its loops, since
+    // `opt160` of `bench` takes an eighth longer where it is called.
+    #[inline(always)]
+    fn turn(&mut self) -> Option<u8>
+        requires more { self.old.read < length self.old.rows.now }
+        requires swept { Swept self.old }
+        ensures swept { Swept self.new }
+        ensures next { (self.new.automaton ≡ self.old.automaton) × (self.new.rows ≡ self.old.rows) × (self.new.read ≡ self.old.read + 1) }
+        ensures earliest { Earliest self.old.automaton.now self.old.rows.now (self.old.read + 1) result }
+    {
+        self.advance();
+        let groups = &self.active;
+        let last = self.automaton.last;
+        let k = groups.sets[..groups.count]
+            .iter()
+            .position(|set| *set & last != 0)?;
+        Some(groups.starts[k])
     }
-    g.count = live;
 }
 
-// The groups after the symbol i too, and the least start of a stretch that ends after it and reads: i + 1 where there is none.
-fn turn(a: &Automaton, rows: &[u64], i: usize, g: &mut Active) -> u8
-    requires within { i < length rows.now }
-    requires short { length rows.now ≤ 160 }
-    requires tracks { Tracks a.now rows.now i g.old }
-    ensures tracks { Tracks a.now rows.now (i + 1) g.new }
-    ensures earliest { Earliest a.now rows.now (i + 1) result }
-    ensures bound { result ≤ i + 1 }
+// The stretch that was found before, or another one where there was none or that one is longer.
+fn longer(best: Option<(usize, usize)>, start: usize, end: usize) -> Option<(usize, usize)>
+    requires ordered { IfSome best (λ x. x.0 ≤ x.1) }
+    requires after { start ≤ end }
+    ensures { MatchOption best (result ≡ Some (start, end)) (λ x. result ≡ (if nat_lt (x.1 - x.0) (end - start) then Some (start, end) else Some x)) }
 {
-    advance(a, rows, i, g);
-    for k in 0..g.count {
-        if g.sets[k] & a.last != 0 {
-            return g.starts[k];
-        }
+    match best {
+        Some((l, r)) if r - l >= end - start => best,
+        _ => Some((start, end)),
     }
-    (i + 1) as u8
-}
-
-// For each symbol the least start of a stretch that ends after it and reads.
-fn leasts(a: &Automaton, rows: &[u64]) -> [u8; 160]
-    requires { length rows.now ≤ 160 }
-    ensures { (i : ℕ) → i < length rows.now → Earliest a.now rows.now (i + 1) (slice_index result i) }
-{
-    let mut g = Active::new();
-    let mut out = [0; 160];
-    for i in 0..rows.len() {
-        out[i] = turn(a, rows, i, &mut g);
-    }
-    out
 }
 
 impl Automaton {
+    ghost use Rattle.automaton.specs.Tracks.{Earliest};
+
+    // For each symbol the least start of a stretch that ends after it and reads.
+    fn leasts(&self, rows: &[u64]) -> [Option<u8>; MOST_SYMBOLS]
+        requires { length rows.now ≤ 160 }
+        ensures { (i : ℕ) → i < length rows.now → Earliest self.now rows.now (i + 1) (slice_index_or result i None) }
+    {
+        let mut sweep = Sweep::new(self, rows);
+        let mut out = [None; MOST_SYMBOLS];
+        for least in &mut out[..rows.len()] {
+            *least = sweep.turn();
+        }
+        out
+    }
+
     /// The longest stretch that reads, as its start and its end, and the leftmost of several; `None` where no stretch reads.
     pub fn longest(&self, rows: &Rows) -> Option<(usize, usize)>
-        ensures { MatchOption result (Silent self.now (rows_of rows.now)) (λ x. Longest self.now (rows_of rows.now) x) }
+        ensures { MatchOption result (NoneReads (Reads self.now (rows_of rows.now))) (λ x. Longest (Reads self.now (rows_of rows.now)) x) }
     {
         let line = rows.as_slice();
-        let mut g = Active::new();
-        let mut l = 0;
-        let mut r = 0;
+        let mut sweep = Sweep::new(self, line);
+        let mut best = if self.nullable { Some((0, 0)) } else { None };
         for i in 0..line.len() {
-            let e = turn(self, line, i, &mut g) as usize;
-            if r - l < i + 1 - e {
-                l = e;
-                r = i + 1;
+            if let Some(start) = sweep.turn() {
+                best = longer(best, start as usize, i + 1);
             }
         }
-        if l < r {
-            return Some((l, r));
-        }
-        if self.nullable { Some((0, 0)) } else { None }
+        best
     }
 
     /// Writes 1 for each symbol that some stretch that reads covers, and 0 for each other, and says how many are covered. Where the
     /// buffer is shorter than the line it says `None`, and writes nothing.
     pub fn mark(&self, rows: &Rows, buffer: &mut [u8]) -> Option<usize>
-        ensures { MatchOption result ((length buffer.old < length (rows_of rows.now)) × (buffer.new ≡ buffer.old)) (λ count. Marks self.now (rows_of rows.now) buffer.old buffer.new count) }
+        ensures { MatchOption result ((length buffer.old < length (rows_of rows.now)) × (buffer.new ≡ buffer.old)) (λ count. Marks (Reads self.now (rows_of rows.now)) (length (rows_of rows.now)) buffer.old buffer.new count) }
     {
         let line = rows.as_slice();
         if buffer.len() < line.len() {
             return None;
         }
-        let least = leasts(self, line);
+        let leasts = self.leasts(line);
         let mut low = line.len();
         let mut count = 0;
+        // By index, which the test compares, and by which two arrays of unlike lengths are read and written.
         for i in (0..line.len()).rev() {
-            low = low.min(least[i] as usize);
+            if let Some(start) = leasts[i] {
+                low = low.min(start as usize);
+            }
             if low <= i {
                 buffer[i] = 1;
                 count += 1;

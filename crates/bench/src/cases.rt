@@ -63,8 +63,8 @@ impl Texts {
 // 32 times `a?`, then 32 times `a`.
 fn optional() -> [u8; 96] {
     let mut pattern = [b'a'; 96];
-    for k in 0..32usize {
-        pattern[2 * k + 1] = b'?';
+    for pair in pattern[..64].chunks_exact_mut(2) {
+        pair.copy_from_slice(b"a?");
     }
     pattern
 }
@@ -72,13 +72,10 @@ fn optional() -> [u8; 96] {
 // 52 times `.*`, inside eight tags.
 fn stars() -> [u8; 120] {
     let mut pattern = [b'{'; 120];
-    for k in 0..52usize {
-        pattern[8 + 2 * k] = b'.';
-        pattern[9 + 2 * k] = b'*';
+    for pair in pattern[8..112].chunks_exact_mut(2) {
+        pair.copy_from_slice(b".*");
     }
-    for k in 112..120usize {
-        pattern[k] = b'}';
-    }
+    pattern[112..].fill(b'}');
     pattern
 }
 
@@ -86,10 +83,10 @@ fn stars() -> [u8; 120] {
 fn coins() -> [u8; 160] {
     let mut line = [b'a'; 160];
     let mut state = 7u32;
-    for k in 0..160usize {
+    for letter in &mut line {
         state = state.wrapping_mul(1103515245).wrapping_add(12345);
         if (state >> 16) % 3 != 0 {
-            line[k] = b'b';
+            *letter = b'b';
         }
     }
     line

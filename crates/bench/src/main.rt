@@ -3,7 +3,6 @@
 #![tactic(auto)]
 
 use alphabet::letters::Letters;
-use anyhow::anyhow;
 use shelf::Shelf;
 use std::env;
 
@@ -11,15 +10,13 @@ mod cases;
 mod timing;
 
 use cases::{Case, Texts};
-use timing::{PLACES, Report};
+use timing::{PLACES, time};
 
 // A shelf with the pattern of a case at each place that is asked.
 fn shelf_of(case: &Case<'_>) -> anyhow::Result<Shelf<Letters>> {
     let mut shelf = Shelf::new(Letters::new());
     for place in 0..PLACES {
-        if shelf.file(place, case.pattern).is_err() {
-            return Err(anyhow!("a pattern is refused"));
-        }
+        shelf.file(place, case.pattern)?;
     }
     Ok(shelf)
 }
@@ -27,9 +24,7 @@ fn shelf_of(case: &Case<'_>) -> anyhow::Result<Shelf<Letters>> {
 fn print_answers(rt: &HostRuntime, case: &Case<'_>) -> anyhow::Result<()> {
     let shelf = shelf_of(case)?;
     let name = case.name;
-    let Ok(marked) = shelf.mark(0, case.line, &mut [0; 160]) else {
-        return Err(anyhow!("a line is refused"));
-    };
+    let marked = shelf.mark(0, case.line, &mut [0; 160])?;
     match shelf.longest(0, case.line) {
         Ok((start, end)) => println!(rt; "{name} {start} {end} {marked}")?,
         Err(_) => println!(rt; "{name} none {marked}")?,
@@ -40,8 +35,13 @@ fn print_answers(rt: &HostRuntime, case: &Case<'_>) -> anyhow::Result<()> {
 fn print_times(rt: &HostRuntime, case: &Case<'_>, runs: usize) -> anyhow::Result<()> {
     let shelf = shelf_of(case)?;
     let name = case.name;
-    let longest = Report::Longest.time(rt, &shelf, case.line, runs)?;
-    let marks = Report::Marks.time(rt, &shelf, case.line, runs)?;
+    let longest = time(rt, runs, |place| {
+        shelf.longest(place, case.line).map_or(0, |(_, end)| end)
+    })?;
+    let mut buffer = [0; 160];
+    let marks = time(rt, runs, |place| {
+        shelf.mark(place, case.line, &mut buffer).unwrap_or(0)
+    })?;
     println!(rt; "{name} {longest} {marks}")?;
     Ok(())
 }

@@ -1,7 +1,8 @@
 -- The entries of a sheet and their parts.
-use Rattle.std.proofs.Common.{◌≡◌, ℕ, zero, suc, ◌+◌, ◌-◌, ◌≤◌, true, ltb, leb, List, [], ◌∷◌, ◌++◌, length, replicate, Some, None, Option, sym, refl, ap, ◌∙◌, append_assoc, arith, length-append}
-use Rattle.std.proofs.lemmas.List.{set_at, length-replicate, replicate-append-replicate}
+use Rattle.std.proofs.Common.{◌≡◌, ℕ, zero, suc, ◌+◌, ◌-◌, ◌≤◌, true, ltb, leb, List, [], ◌∷◌, ◌++◌, length, replicate, Some, None, Option, sym, refl, ap, ◌∙◌, append_assoc, arith}
+use Rattle.std.proofs.lemmas.List.{set_at, replicate-append-replicate}
 use Rattle.std.proofs.lemmas.Bool.{cond-true, le-leb, lt-ltb, and_from}
+use Rattle.std.proofs.lemmas.Grind.{common_steps}
 use Rattle.sheet.specs.declared.Part.{Part}
 use Rattle.sheet.specs.Entries.{with_entry}
 use Rattle.cue.specs.Records.{parts_from, fits, all_fit}
@@ -39,10 +40,10 @@ module _ (ys : List (Option Part)) (tag new : ℕ) (part : Part) (t : tag ≡ le
   passed = replicate (new - tag) None
 
   long : length (ys ++ passed) ≡ new - 1
-  long = omega (arith, t, from, length-append ys passed, length-replicate {A = Option Part} (new - tag) None)
+  long = grind (arith, common_steps, t, from)
 
   pub longer : new + 1 ≡ length ((ys ++ passed) ++ (Some part ∷ [])) + 1
-  longer = omega (arith, long, t, from, length-append (ys ++ passed) (Some part ∷ []))
+  longer = grind (arith, common_steps, long, t, from)
 
   split : ys ++ replicate (9 - tag) None ≡ (ys ++ passed) ++ (None ∷ replicate (8 - new) None)
   split =

@@ -1,7 +1,8 @@
 -- A buffer of marks and a sheet, as runs and parts come.
-use Rattle.std.proofs.Common.{◌≡◌, ℕ, zero, suc, ◌+◌, ◌-◌, ◌<◌, ◌≤◌, Bool, true, false, cond, ◌&&◌, leb, List, [], ◌∷◌, ◌++◌, length, get_or, take, drop, replicate, Some, Ok, Err, Option, Result, sym, refl, ap, ◌∙◌, subst, append_assoc, arith, length-append, take-append-drop}
-use Rattle.std.proofs.lemmas.List.{take_at, take-append-le, drop-append-le, length-take-le, length-drop, length-replicate}
+use Rattle.std.proofs.Common.{◌≡◌, ℕ, zero, suc, ◌+◌, ◌-◌, ◌<◌, ◌≤◌, Bool, true, false, cond, ◌&&◌, leb, List, [], ◌∷◌, ◌++◌, length, get_or, take, drop, replicate, Some, Ok, Err, Option, Result, sym, refl, ap, ◌∙◌, subst, arith, take-append-drop}
+use Rattle.std.proofs.lemmas.List.{take_at, take-append-le, drop-append-le, length-take-le}
 use Rattle.std.proofs.lemmas.Bool.{leb-true, and_parts}
+use Rattle.std.proofs.lemmas.Grind.{common_steps}
 use Rattle.sheet.specs.declared.Part.{Part}
 use Rattle.cue.specs.declared.cursor.Cue.{Cue}
 use Rattle.cue.specs.declared.cursor.Cue.TheVariants.{Run, TagPart}
@@ -22,8 +23,7 @@ all_bytes (b ∷ bytes) h = (h 0, all_bytes bytes (λ i. h (suc i)))
 
 pub run_length : (left right : ℕ) (ms : List ℕ) → left ≤ right → right ≤ length ms → length (with_run left right ms) ≡ length ms
 run_length left right ms h l =
-    let ones : List ℕ = replicate (right - left) 1 in
-    omega (arith, h, l, length-append (take left ms) (ones ++ drop right ms), length-append ones (drop right ms), length-take-le left ms (omega (arith, h, l)), length-drop right ms, length-replicate {A = ℕ} (right - left) 1)
+    grind (arith, common_steps)
 
 -- and in a longer list
 pub run_in_front : (left right n : ℕ) (ms : List ℕ) → left ≤ right → right ≤ n → n ≤ length ms → take n (with_run left right ms) ≡ with_run left right (take n ms)
@@ -33,10 +33,7 @@ run_in_front left right n ms h l m =
     let long : length p ≡ n = length-take-le n ms m in
     let ones : List ℕ = replicate (right - left) 1 in
     let whole : with_run left right (p ++ q) ≡ with_run left right p ++ q =
-    ap (λ t. t ++ (ones ++ drop right (p ++ q))) (take-append-le left p q (omega (arith, h, l, long)))
-    ∙ ap (λ t. take left p ++ (ones ++ t)) (drop-append-le right p q (omega (arith, l, long)))
-    ∙ ap (λ t. take left p ++ t) (sym (append_assoc ones (drop right p) q))
-    ∙ sym (append_assoc (take left p) (ones ++ drop right p) q) in
+    grind (arith, common_steps, take-append-le left p q (omega (arith, h, l, long)), drop-append-le right p q (omega (arith, l, long))) in
     let size : length (with_run left right p) ≡ n = run_length left right p h (omega (arith, l, long)) ∙ long in
     ap (λ t. take n (with_run left right t)) (sym (take-append-drop n ms)) ∙ ap (take n) whole ∙ take_at (with_run left right p) q n size
 

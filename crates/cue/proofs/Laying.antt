@@ -1,6 +1,7 @@
 -- Marks by their runs, and runs by their marks.
-use Rattle.std.proofs.Common.{◌≡◌, ℕ, zero, suc, ◌+◌, ◌-◌, ◌*◌, ◌<◌, ◌≤◌, min, Bool, true, false, cond, eqb, List, [], ◌∷◌, ◌++◌, length, replicate, sym, refl, ap, ◌∙◌, append_assoc, append-nil, arith, length-append}
-use Rattle.std.proofs.lemmas.List.{replicate_more, length-replicate}
+use Rattle.std.proofs.Common.{◌≡◌, ℕ, zero, suc, ◌+◌, ◌-◌, ◌*◌, ◌<◌, ◌≤◌, min, Bool, true, false, cond, eqb, List, [], ◌∷◌, ◌++◌, length, replicate, sym, refl, ap, ◌∙◌, append_assoc, append-nil, arith}
+use Rattle.std.proofs.lemmas.List.{replicate_more, length-replicate, map-append}
+use Rattle.std.proofs.lemmas.Grind.{common_steps}
 use Rattle.cue.specs.Marks.{mark, marks, runs_after, runs_of, least_gap, LongestRuns, laid}
 
 -- one of the same in front of so many
@@ -112,10 +113,6 @@ runs_again n rs l = ap (runs_after 0 zero) (start rs) ∙ runs_behind rs n 0 0 n
     start (run ∷ rs) = let e : run.0 ≡ run.0 - 0 = omega arith in ap (λ i. replicate i 0 ++ (replicate run.1 1 ++ laid (n - (run.0 + run.1)) rs)) e
 
 -- marks that are laid out are 1 and 0 already
-marks_append : (xs ys : List ℕ) → marks (xs ++ ys) ≡ marks xs ++ marks ys
-marks_append [] ys = refl
-marks_append (x ∷ xs) ys = ap (λ l. mark x ∷ l) (marks_append xs ys)
-
 marks_replicate : (n m : ℕ) → mark m ≡ m → marks (replicate n m) ≡ replicate n m
 marks_replicate zero m e = refl
 marks_replicate (suc n) m e = rw (e, marks_replicate n m e) refl
@@ -123,8 +120,8 @@ marks_replicate (suc n) m e = rw (e, marks_replicate n m e) refl
 pub marks_laid : (n : ℕ) (rs : List (ℕ × ℕ)) → marks (laid n rs) ≡ laid n rs
 marks_laid n [] = marks_replicate n 0 refl
 marks_laid n (run ∷ rs) =
-    marks_append (replicate run.0 0) _
-    ∙ rw (marks_replicate run.0 0 refl, marks_append (replicate run.1 1) (laid (n - (run.0 + run.1)) rs), marks_replicate run.1 1 refl, marks_laid (n - (run.0 + run.1)) rs) refl
+    map-append mark (replicate run.0 0) _
+    ∙ rw (marks_replicate run.0 0 refl, map-append mark (replicate run.1 1) (laid (n - (run.0 + run.1)) rs), marks_replicate run.1 1 refl, marks_laid (n - (run.0 + run.1)) rs) refl
 
 -- at most every second symbol begins a run
 runs_apart : (n end : ℕ) (rs : List (ℕ × ℕ)) → LongestRuns n end rs → 2 * length rs + end + min end 1 ≤ n + 1
@@ -142,14 +139,4 @@ within_line n end (run ∷ rs) l = omega (arith, within_line n (end + run.0 + ru
 pub laid_length : (n end m : ℕ) (rs : List (ℕ × ℕ)) → LongestRuns n end rs → m ≡ n - end → length (laid m rs) ≡ m
 laid_length n end m [] l e = length-replicate {A = ℕ} m 0
 laid_length n end m (run ∷ rs) l e =
-    let rest = laid_length n (end + run.0 + run.1) (m - (run.0 + run.1)) rs l.2 (omega (arith, e)) in
-    omega (
-      arith,
-      e,
-      rest,
-      within_line n (end + run.0 + run.1) rs l.2,
-      length-append (replicate run.0 0) (replicate run.1 1 ++ laid (m - (run.0 + run.1)) rs),
-      length-append (replicate run.1 1) (laid (m - (run.0 + run.1)) rs),
-      length-replicate {A = ℕ} run.0 0,
-      length-replicate {A = ℕ} run.1 1,
-    )
+    grind (arith, common_steps, laid_length n (end + run.0 + run.1) (m - (run.0 + run.1)) rs l.2 (omega (arith, e)), within_line n (end + run.0 + run.1) rs l.2)

@@ -1,7 +1,8 @@
 -- What is written is read back as it was, and what is read gives the same bytes when it is written.
 use Rattle.std.proofs.Common.{◌≡◌, ℕ, zero, suc, ◌+◌, ◌-◌, ◌<◌, ◌≤◌, true, ltb, leb, List, [], ◌∷◌, ◌++◌, length, take, drop, replicate, Some, None, Ok, Err, Option, Result, sym, refl, ap, ◌∙◌, subst, append_assoc, arith, length-append}
-use Rattle.std.proofs.lemmas.List.{take_at, drop_at, length-replicate, replicate-append-replicate}
+use Rattle.std.proofs.lemmas.List.{length-replicate, replicate-append-replicate}
 use Rattle.std.proofs.lemmas.Bool.{ltb-true, leb-true, and_parts, and_from}
+use Rattle.std.proofs.lemmas.Grind.{common_steps}
 use Rattle.sheet.specs.declared.Part.{Part}
 use Rattle.sheet.specs.Entries.{with_entry}
 use Rattle.cue.specs.declared.refusal.Fault.{Fault}
@@ -20,21 +21,14 @@ pub with_run_lem : (xs : List ℕ) (n end gap len : ℕ) → length xs ≡ end �
 with_run_lem xs n end gap len e h =
     let rest = n - (end + gap + len) in
     let all : gap + len + rest ≡ n - end = omega (arith, h) in
-    let parts : replicate (n - end) 0 ≡ (replicate gap 0 ++ replicate len 0) ++ replicate rest 0 =
-    ap (λ i. replicate i 0) (sym all) ∙ sym (replicate-append-replicate (gap + len) rest 0) ∙ ap (λ l. l ++ replicate rest 0) (sym (replicate-append-replicate gap len 0)) in
-    let front : xs ++ replicate (n - end) 0 ≡ (xs ++ replicate gap 0) ++ (replicate len 0 ++ replicate rest 0) =
-    ap (λ l. xs ++ l) (parts ∙ append_assoc (replicate gap 0) (replicate len 0) (replicate rest 0)) ∙ sym (append_assoc xs (replicate gap 0) (replicate len 0 ++ replicate rest 0)) in
-    let back : xs ++ replicate (n - end) 0 ≡ (xs ++ (replicate gap 0 ++ replicate len 0)) ++ replicate rest 0 =
-    ap (λ l. xs ++ l) parts ∙ sym (append_assoc xs (replicate gap 0 ++ replicate len 0) (replicate rest 0)) in
-    let zeros : (k : ℕ) → length {A = ℕ} (replicate k 0) ≡ k = λ k. length-replicate {A = ℕ} k 0 in
-    let before : take (end + gap) (xs ++ replicate (n - end) 0) ≡ xs ++ replicate gap 0 =
-    ap (take (end + gap)) front ∙ take_at (xs ++ replicate gap 0) _ (end + gap) (omega (arith, e, length-append {A = ℕ} xs (replicate gap 0), zeros gap)) in
-    let behind : drop (end + gap + len) (xs ++ replicate (n - end) 0) ≡ replicate rest 0 =
-    ap (drop (end + gap + len)) back
-    ∙ drop_at (xs ++ (replicate gap 0 ++ replicate len 0)) (replicate rest 0) (end + gap + len)
-    (omega (arith, e, length-append {A = ℕ} xs (replicate gap 0 ++ replicate len 0), length-append {A = ℕ} (replicate gap 0) (replicate len 0), zeros gap, zeros len)) in
+    let parts : replicate {A = ℕ} (n - end) 0 ≡ (replicate gap 0 ++ replicate len 0) ++ replicate rest 0 =
+    grind (arith, common_steps, all, replicate-append-replicate {A = ℕ} (gap + len) rest 0, replicate-append-replicate {A = ℕ} gap len 0) in
+    let front : xs ++ replicate (n - end) 0 ≡ (xs ++ replicate gap 0) ++ (replicate len 0 ++ replicate rest 0) = grind (arith, common_steps, parts) in
+    let back : xs ++ replicate (n - end) 0 ≡ (xs ++ (replicate gap 0 ++ replicate len 0)) ++ replicate rest 0 = grind (arith, common_steps, parts) in
+    let before : take (end + gap) (xs ++ replicate (n - end) 0) ≡ xs ++ replicate gap 0 = grind (arith, common_steps, front, e) in
+    let behind : drop (end + gap + len) (xs ++ replicate (n - end) 0) ≡ replicate rest 0 = grind (arith, common_steps, back, e) in
     let long : end + gap + len - (end + gap) ≡ len = omega arith in
-    rw (before, behind, long) (sym (ap (λ l. l ++ replicate rest 0) (sym (append_assoc xs (replicate gap 0) (replicate len 1))) ∙ append_assoc (xs ++ replicate gap 0) (replicate len 1) (replicate rest 0)))
+    rw (before, behind, long) (grind (arith, common_steps))
 
 -- a number that is there, and what comes behind it
 go_on_from : (x : Result (ℕ × ℕ × List ℕ) Fault) (y : ℕ × ℕ × List ℕ) (go_on : ℕ → ℕ → List ℕ → Cues) (ms : List ℕ) (es : List (Option Part)) (z : Result (List ℕ × List (Option Part)) Fault)
@@ -89,7 +83,7 @@ module _ (n : ℕ) (short : n ≤ 160) where
       let new : List ℕ = replicate gap 0 ++ replicate len 1 in
       let a = number_read_within (least_gap end) (n - end) at gap (leb128 len ++ (run_bytes rs ++ tail)) (omega (arith, within, short)) l.0 (omega (arith, within)) in
       let b = number_read_within 1 (n - (end + gap)) a.0 len (run_bytes rs ++ tail) (omega (arith, within, short)) l.1 (omega (arith, within)) in
-      let longer : length (xs ++ new) ≡ end + gap + len = omega (arith, e, length-append {A = ℕ} xs new, length-append {A = ℕ} (replicate gap 0) (replicate len 1), length-replicate {A = ℕ} gap 0, length-replicate {A = ℕ} len 1) in
+      let longer : length (xs ++ new) ≡ end + gap + len = grind (arith, common_steps, e) in
       let more = runs_read rs (xs ++ new) (end + gap + len) b.0 tail es longer l.2 in
       let room : n - (end + gap + len) ≡ n - end - (gap + len) = omega arith in (
         more.0,
@@ -155,7 +149,7 @@ part_written n tag new start len more bytes rest ys result t from to some within
     record {
       entries = gone ++ (Some part ∷ r.entries);
       is = r.is ∙ append_assoc (ys ++ gone) (Some part ∷ []) r.entries ∙ append_assoc ys gone (Some part ∷ r.entries);
-      many = omega (arith, r.many, from, length-append gone (Some part ∷ r.entries), length-replicate {A = Option Part} (new - tag) None);
+      many = grind (arith, common_steps, r.many, from);
       fit = fits_past n (new - tag) (Some part ∷ r.entries) ∙ and_from (fits n part) (all_fit n r.entries) (part_fits n start len some within) r.fit;
       count = ap length parts ∙ ap suc r.count;
       same = e ∙ ap (λ l. leb128 new ++ (leb128 start ++ (leb128 len ++ l))) r.same ∙ ap (λ i. leb128 new ++ (leb128 start ++ (leb128 i ++ part_bytes (parts_from (new + 1) r.entries)))) (sym size) ∙ ap part_bytes (sym parts);
@@ -228,7 +222,7 @@ module _ (n : ℕ) where
       let len = b.there.0 in
       let new : List ℕ = replicate gap 0 ++ replicate len 1 in
       let within : end + gap + len ≤ n = omega (arith, wa.2, wb.2, h) in
-      let longer : length (xs ++ new) ≡ end + gap + len = omega (arith, l, length-append {A = ℕ} xs new, length-append {A = ℕ} (replicate gap 0) (replicate len 1), length-replicate {A = ℕ} gap 0, length-replicate {A = ℕ} len 1) in
+      let longer : length (xs ++ new) ≡ end + gap + len = grind (arith, common_steps, l) in
       let r = runs_written more (end + gap + len) b.there.1 b.there.2 (xs ++ new) z wb.0.rest longer within
       (ap (λ ms. filled (runs_to_come n more (end + gap + len) b.there.1 b.there.2) ms (replicate 8 None)) (sym (with_run_lem xs n end gap len l within)) ∙ b.then) in
       let room : n - (end + gap + len) ≡ n - end - (gap + len) = omega arith in

@@ -1,6 +1,7 @@
 -- What is written step by step, and what writing answers.
-use Rattle.std.proofs.Common.{◌≡◌, ℕ, ◌+◌, ◌-◌, ◌*◌, ◌≤◌, true, List, [], ◌∷◌, ◌++◌, length, Some, None, Option, sym, ap, ◌∙◌, subst, append_assoc, arith, length-append}
+use Rattle.std.proofs.Common.{◌≡◌, ℕ, ◌+◌, ◌-◌, ◌*◌, ◌≤◌, true, List, [], ◌∷◌, ◌++◌, length, Some, None, Option, sym, ap, ◌∙◌, subst, append_assoc, arith}
 use Rattle.std.proofs.lemmas.Bool.{leb-true, ltb-true, and_parts}
+use Rattle.std.proofs.lemmas.Grind.{common_steps}
 use Rattle.text.specs.declared.buffer.Text.{Text}
 use Rattle.text.specs.Texts.{Adds, written}
 use Rattle.text.proofs.Chains.{◌then◌, read_as, alone}
@@ -31,14 +32,7 @@ runs_length : (n end : ℕ) (rs : List (ℕ × ℕ)) → n ≤ 160 → LongestRu
 runs_length n end [] h l = omega arith
 runs_length n end (run ∷ rs) h l =
     let within = within_line n (end + run.0 + run.1) rs l.2 in
-    omega (
-      arith,
-      runs_length n (end + run.0 + run.1) rs h l.2,
-      leb_length run.0 (omega (arith, within, h)),
-      leb_length run.1 (omega (arith, within, h)),
-      length-append (leb128 run.0) (leb128 run.1 ++ run_bytes rs),
-      length-append (leb128 run.1) (run_bytes rs),
-    )
+    grind (arith, common_steps, runs_length n (end + run.0 + run.1) rs h l.2, leb_length run.0 (omega (arith, within, h)), leb_length run.1 (omega (arith, within, h)))
 
 parts_length : (n tag : ℕ) (entries : List (Option Part)) → n ≤ 160 → tag + length entries ≤ 9 → all_fit n entries ≡ true → length (part_bytes (parts_from tag entries)) ≤ 6 * length entries
 parts_length n tag [] h t f = omega arith
@@ -48,34 +42,27 @@ parts_length n tag (Some p ∷ es) h t f =
     let fit = and_parts _ _ q.0 in
     let some = ltb-true p.left p.right fit.0 in
     let within = leb-true p.right n fit.1 in
-    let rest = part_bytes (parts_from (tag + 1) es) in
-    omega (
+    grind (
       arith,
+      common_steps,
       parts_length n (tag + 1) es h (omega (arith, t)) q.1,
       leb_length tag (omega (arith, t)),
       leb_length p.left (omega (arith, some, within, h)),
       leb_length (p.right - p.left) (omega (arith, within, h)),
-      length-append (leb128 tag) (leb128 p.left ++ (leb128 (p.right - p.left) ++ rest)),
-      length-append (leb128 p.left) (leb128 (p.right - p.left) ++ rest),
-      length-append (leb128 (p.right - p.left)) rest,
     )
 
 record_short : (ms : List ℕ) (entries : List (Option Part)) → length ms ≤ 160 → length entries ≡ 8 → all_fit (length ms) entries ≡ true → length (record_of ms entries) ≤ 4096
 record_short ms entries h e f =
     let runs = runs_of ms in
     let parts = parts_from 1 entries in
-    omega (
+    grind (
       arith,
-      h,
+      common_steps,
       few_runs ms,
       runs_length (length ms) 0 runs h (longest_runs ms),
       parts_length (length ms) 1 entries h (omega (arith, e)) f,
-      e,
       leb_length (length runs) (omega (arith, few_runs ms, h)),
       leb_length (length parts) (omega (arith, few_parts 1 entries, e)),
-      length-append (leb128 (length runs)) (run_bytes runs ++ (leb128 (length parts) ++ part_bytes parts)),
-      length-append (run_bytes runs) (leb128 (length parts) ++ part_bytes parts),
-      length-append (leb128 (length parts)) (part_bytes parts),
     )
 
 -- the whole record

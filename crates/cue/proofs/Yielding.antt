@@ -1,5 +1,6 @@
 -- What comes of a run or a part, by the numbers that are taken for it.
 use Rattle.std.proofs.Common.{◌≡◌, ℕ, suc, ◌+◌, ◌-◌, ◌<◌, List, length, drop, Some, Ok, Err, Option, Result, sym, refl, ap, ◌∙◌, subst, arith}
+use Rattle.std.specs.Result.{IsErrAnd}
 use Rattle.std.proofs.lemmas.List.{at_drop_more}
 use Rattle.cue.specs.declared.cursor.Cue.{Cue}
 use Rattle.cue.specs.declared.cursor.Cursor.{Cursor}
@@ -11,6 +12,11 @@ use Rattle.cue.specs.Cursors.{left, Took, Yields, cues_left}
 
 pub yields_bad : (k : Cues) (f : Fault) (is : Cursor) (r : Result (Option Cue) Fault) → k ≡ bad f → r ≡ Err f → Yields k is r
 yields_bad k f is r e h = subst (λ k. Yields k is r) (sym e) h
+
+-- at the exit of a `?`
+pub yields_fault : (k : Cues) (f : Fault) (is : Cursor) (r : Result (Option Cue) Fault) → IsErrAnd r (λ g. g ≡ f) → k ≡ bad f → Yields k is r
+yields_fault k f is (Ok x) h e = absurd h
+yields_fault k f is (Err g) h e = yields_bad k f is (Err g) e (ap Err h)
 
 pub yields_next : (k rest : Cues) (cue : Cue) (is : Cursor) → k ≡ next cue rest → cues_left is ≡ rest → Yields k is (Ok (Some cue))
 yields_next k rest cue is e h = subst (λ k. Yields k is (Ok (Some cue))) (sym e) (refl, h)

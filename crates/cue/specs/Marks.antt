@@ -1,6 +1,6 @@
 -- Marks, one for each symbol of a line, and their longest runs. A run is told by its gap, which is how many unmarked symbols stand
 -- between it and the run before (or the line's start), and its length.
-use Rattle.std.specs.Prelude.{◌≡◌, ℕ, zero, suc, ◌+◌, ◌-◌, ◌≤◌, min, cond, List, [], ◌∷◌, ◌++◌, length, replicate, ◌==◌}
+use Rattle.std.specs.Prelude.{◌≡◌, ℕ, zero, suc, ◌+◌, ◌-◌, ◌≤◌, min, cond, List, [], ◌∷◌, ◌++◌, length, map, replicate, ◌==◌}
 
 -- a mark as 1 or 0: any other number than 0 marks
 abbrev pub mark : ℕ → ℕ
@@ -8,8 +8,7 @@ mark m = cond (m == 0) 0 1
 
 -- the marks as 1 and 0
 abbrev pub marks : List ℕ → List ℕ
-marks [] = []
-marks (m ∷ ms) = mark m ∷ marks ms
+marks ms = map mark ms
 
 -- the runs of some marks, where so many unmarked symbols and then so many marked ones come before the first of these
 abbrev pub runs_after : ℕ → ℕ → List ℕ → List (ℕ × ℕ)

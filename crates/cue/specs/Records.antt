@@ -1,5 +1,6 @@
 -- The cue record of a line's marks and parts.
 use Rattle.std.specs.Prelude.{ℕ, ◌+◌, ◌-◌, Bool, true, ◌&&◌, List, [], ◌∷◌, ◌++◌, length, Some, None, Option, nat_le, nat_lt}
+use Rattle.std.specs.List.{list_all}
 use Rattle.sheet.specs.declared.Part.{Part}
 use Rattle.cue.specs.Leb128.{leb128}
 use Rattle.cue.specs.Marks.{runs_of}
@@ -31,8 +32,11 @@ record_of marks entries = counted (runs_of marks) (parts_from 1 entries)
 abbrev pub fits : ℕ → Part → Bool
 fits symbols part = nat_lt part.left part.right && nat_le part.right symbols
 
+-- an entry has no part, or one that is so
+abbrev pub entry_fits : ℕ → Option Part → Bool
+entry_fits symbols None = true
+entry_fits symbols (Some part) = fits symbols part
+
 -- every part of some entries is so
 abbrev pub all_fit : ℕ → List (Option Part) → Bool
-all_fit symbols [] = true
-all_fit symbols (None ∷ entries) = all_fit symbols entries
-all_fit symbols (Some part ∷ entries) = fits symbols part && all_fit symbols entries
+all_fit symbols entries = list_all (λ entry. entry_fits symbols entry) entries

@@ -35,10 +35,10 @@ pub enum Cue {
 // What comes next in a record.
 #[derive(Clone, Copy)]
 enum Stage {
-    // So many runs; the run before ended there.
-    Runs(usize, usize),
-    // So many parts, with tags from that one on.
-    Parts(usize, usize),
+    // So many runs, where the run before ended at `end`.
+    Runs { to_come: usize, end: usize },
+    // So many parts, with tags from `least` on.
+    Parts { to_come: usize, least: usize },
 }
 
 /// A place in a record's bytes, which are those of a line of so many symbols.
@@ -59,10 +59,10 @@ impl<'a> Cursor<'a> {
             bytes,
             offset: 0,
             symbols,
-            stage: Stage::Runs(0, 0),
+            stage: Stage::Runs { to_come: 0, end: 0 },
         };
-        let runs = cursor.number()?;
-        cursor.stage = Stage::Runs(runs, 0);
+        let to_come = cursor.number()?;
+        cursor.stage = Stage::Runs { to_come, end: 0 };
         Ok(cursor)
     }
 
@@ -118,7 +118,10 @@ impl<'a> Cursor<'a> {
         let left = end + gap;
         let length = self.number_within(1, self.symbols.saturating_sub(left))?;
         let right = left + length;
-        self.stage = Stage::Runs(runs - 1, right);
+        self.stage = Stage::Runs {
+            to_come: runs - 1,
+            end: right,
+        };
         Ok(Some(Cue::Run(MarkedRun {
             offset,
             left,
@@ -135,14 +138,17 @@ impl<'a> Cursor<'a> {
             if offset < self.bytes.len() {
                 return Err(Fault::BrokenRule(offset));
             }
-            self.stage = Stage::Parts(0, least);
+            self.stage = Stage::Parts { to_come: 0, least };
             return Ok(None);
         }
         let tag = self.number_within(least, TAGS)?;
         let left = self.number_within(0, self.symbols)?;
         let length = self.number_within(1, self.symbols - left)?;
         let right = left + length;
-        self.stage = Stage::Parts(parts - 1, tag + 1);
+        self.stage = Stage::Parts {
+            to_come: parts - 1,
+            least: tag + 1,
+        };
         let part = Part { left, right };
         Ok(Some(Cue::TagPart(TaggedPart { offset, tag, part })))
     }
@@ -152,12 +158,12 @@ impl<'a> Cursor<'a> {
         ensures { Yields (cues_left self.old) self.new result }
     {
         match self.stage {
-            Stage::Runs(0, _) => {
+            Stage::Runs { to_come: 0, .. } => {
                 let parts = self.number()?;
                 self.part(parts, 1)
             }
-            Stage::Runs(runs, end) => self.run(runs, end),
-            Stage::Parts(parts, least) => self.part(parts, least),
+            Stage::Runs { to_come, end } => self.run(to_come, end),
+            Stage::Parts { to_come, least } => self.part(to_come, least),
         }
     }
 

@@ -23,6 +23,7 @@ pub enum Refusal {
     NoRecord(Fault),
 }
 
+// By hand, since a derived `From` has no contract, and what a `?` makes is named in contracts.
 impl From<Fault> for Refusal {
     ghost from_gives = { λ f r. r ≡ NoRecord f };
 

@@ -1,5 +1,5 @@
 // Writes a record of marks and parts.
-ghost use Rattle.std.specs.Prelude.{◌≡◌, ℕ, ◌-◌, ◌≤◌, true, ◌++◌, length, take};
+ghost use Rattle.std.specs.Prelude.{◌≡◌, ℕ, ◌-◌, ◌≤◌, true, ◌++◌, length, take, count_by, is_some};
 ghost use Rattle.text.specs.Texts.{Adds, written};
 ghost use Rattle.cue.specs.Leb128.{leb128, Shortest};
 ghost use Rattle.cue.specs.Marks.{runs_of, RunsOf};
@@ -27,14 +27,10 @@ fn write_number(out: &mut Text, n: usize)
 fn run_count(marks: &[u8]) -> usize
     ensures { result ≡ length (runs_of marks.now) }
 {
-    let mut count = 0;
-    let mut inside = false;
-    for mark in marks {
-        let marked = *mark != 0;
-        count += usize::from(marked & !inside);
-        inside = marked;
-    }
-    count
+    marks
+        .split(|mark| *mark == 0)
+        .filter(|run| !run.is_empty())
+        .count()
 }
 
 // The gap before each run, and its length.
@@ -42,34 +38,22 @@ fn write_runs(out: &mut Text, marks: &[u8])
     ensures { Adds out.old (run_bytes (runs_of marks.now)) out.new }
 {
     let mut gap = 0;
-    let mut length = 0;
-    for mark in marks {
-        if *mark != 0 {
-            length += 1;
-        } else if length == 0 {
-            gap += 1;
-        } else {
+    for run in marks.split(|mark| *mark == 0) {
+        if !run.is_empty() {
             write_number(out, gap);
-            write_number(out, length);
-            gap = 1;
-            length = 0;
+            write_number(out, run.len());
+            gap = 0;
         }
-    }
-    if length > 0 {
-        write_number(out, gap);
-        write_number(out, length);
+        // The unmarked symbol that stands behind.
+        gap += 1;
     }
 }
 
 // How many of the entries are filled.
 fn part_count(entries: &[Option<Part>]) -> usize
-    ensures { result ≡ length (parts_from 1 entries.now) }
+    ensures { result ≡ count_by is_some entries.now }
 {
-    let mut count = 0;
-    for entry in entries {
-        count += usize::from(entry.is_some());
-    }
-    count
+    entries.iter().filter(|entry| entry.is_some()).count()
 }
 
 // The tag of a part, its start and its length.
@@ -81,7 +65,7 @@ fn write_part(out: &mut Text, tag: usize, part: Part)
     write_number(out, part.right.saturating_sub(part.left));
 }
 
-// The same for each entry that is filled.
+// The same for each entry that is filled. That of tag 1 stands first.
 fn write_parts(out: &mut Text, entries: &[Option<Part>])
     ensures { Adds out.old (part_bytes (parts_from 1 entries.now)) out.new }
 {
@@ -103,14 +87,9 @@ fn part_fits(part: Part, symbols: usize) -> bool
 fn parts_fit(entries: &[Option<Part>], symbols: usize) -> bool
     ensures { result ≡ all_fit symbols entries.now }
 {
-    for entry in entries {
-        if let Some(part) = entry {
-            if !part_fits(*part, symbols) {
-                return false;
-            }
-        }
-    }
-    true
+    entries
+        .iter()
+        .all(|entry| entry.is_none_or(|part| part_fits(part, symbols)))
 }
 
 // The whole record.

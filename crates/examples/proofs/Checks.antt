@@ -1,10 +1,11 @@
 -- What a pattern reads of a line, by checks that compute: each goes through all the stretches of the line.
 use Rattle.std.proofs.Common.{◌≡◌, ℕ, zero, suc, ◌+◌, ◌-◌, ◌<◌, ◌≤◌, Bool, true, false, cond, not, ◌&&◌, ◌||◌, eqb, ltb, leb, List, length, get_or, refl, inl, inr, arith, ltb-true, eqb-true, le-leb, leb-true}
+use Rattle.std.proofs.lemmas.Bool.{and_from, and_parts, or_cases}
 use borrow.Author.Tests.{not-true, both_ways}
+use Rattle.automaton.specs.Stretches.{Ahead, Longest, NoneReads, Covered, MarkedRight}
 use Rattle.pattern.specs.Expressions.{Expr}
 use Rattle.pattern.specs.Positions.{size, numbered}
-use Rattle.pattern.proofs.Sets.{or_true, and_true, and_both}
-use Rattle.shelf.specs.Matching.{stretch, Reads, Ahead, Longest, NoneReads, Covered, MarkedRight}
+use Rattle.shelf.specs.Matching.{stretch, Reads}
 use Rattle.examples.proofs.Bounded.{every, some, of_every, to_some, of_some}
 use Rattle.examples.proofs.Matcher.{matches, word_of, of_word}
 
@@ -48,7 +49,7 @@ module _ {S : Type 0} (admits : ℕ → S → Bool) (e : Expr) (in_order : numbe
   of_reads l r x = of_word e admits in_order x.word (stretch line l r) x.is_word x.admitted
 
   passed : (a b : Bool) → a || not b ≡ true → b ≡ true → a ≡ true
-  passed a b h r = elim (or_true a (not b) h) [ inl x ↦ x | inr y ↦ absurd (both_ways b (not-true b y) r) ]
+  passed a b h r = elim (or_cases a (not b) h) [ inl x ↦ x | inr y ↦ absurd (both_ways b (not-true b y) r) ]
 
   of_all : (passes : ℕ → ℕ → Bool) → all_reading admits e line passes ≡ true → (l r : ℕ) → Reads admits e line l r → passes l r ≡ true
   of_all passes h l r x =
@@ -60,31 +61,31 @@ module _ {S : Type 0} (admits : ℕ → S → Bool) (e : Expr) (in_order : numbe
 
   to_ahead : (a b l r : ℕ) → is_ahead a b l r ≡ true → Ahead (a, b) (l, r)
   to_ahead a b l r h =
-      elim (or_true (ltb (r - l) (b - a)) (eqb (r - l) (b - a) && leb a l) h) [
+      elim (or_cases (ltb (r - l) (b - a)) (eqb (r - l) (b - a) && leb a l) h) [
         | inl x ↦ inl (ltb-true (r - l) (b - a) x)
-        | inr y ↦ (let z = and_true (eqb (r - l) (b - a)) (leb a l) y in inr (eqb-true (r - l) (b - a) z.0, leb-true a l z.1))
+        | inr y ↦ (let z = and_parts (eqb (r - l) (b - a)) (leb a l) y in inr (eqb-true (r - l) (b - a) z.0, leb-true a l z.1))
       ]
 
-  pub to_longest : (a b : ℕ) → is_longest admits e line a b ≡ true → Longest admits e line (a, b)
+  pub to_longest : (a b : ℕ) → is_longest admits e line a b ≡ true → Longest (Reads admits e line) (a, b)
   to_longest a b h =
-      let x = and_true (leb a b) (leb b (length line) && (reads admits e line a b && all_reading admits e line (is_ahead a b))) h in
-      let y = and_true (leb b (length line)) (reads admits e line a b && all_reading admits e line (is_ahead a b)) x.1 in
-      let z = and_true (reads admits e line a b) (all_reading admits e line (is_ahead a b)) y.1 in
+      let x = and_parts (leb a b) (leb b (length line) && (reads admits e line a b && all_reading admits e line (is_ahead a b))) h in
+      let y = and_parts (leb b (length line)) (reads admits e line a b && all_reading admits e line (is_ahead a b)) x.1 in
+      let z = and_parts (reads admits e line a b) (all_reading admits e line (is_ahead a b)) y.1 in
       record {
         reads = to_reads a b (leb-true a b x.0) (leb-true b (length line) y.0) z.0;
         ahead = λ l r read. to_ahead a b l r (of_all (is_ahead a b) z.1 l r read);
       }
 
-  pub to_none_reads : none_reads admits e line ≡ true → NoneReads admits e line
+  pub to_none_reads : none_reads admits e line ≡ true → NoneReads (Reads admits e line)
   to_none_reads h l r read = both_ways false refl (of_all (λ _ _. false) h l r read)
 
-  to_covered : (i : ℕ) → is_covered admits e line i ≡ true → Covered admits e line i
+  to_covered : (i : ℕ) → is_covered admits e line i ≡ true → Covered (Reads admits e line) i
   to_covered i h =
       let x = of_some (suc i) (λ l. some (length line) (λ k. leb i k && reads admits e line l (suc k))) h in
       let l = x.0 in
       let y = of_some (length line) (λ k. leb i k && reads admits e line l (suc k)) x.2 in
       let k = y.0 in
-      let z = and_true (leb i k) (reads admits e line l (suc k)) y.2 in
+      let z = and_parts (leb i k) (reads admits e line l (suc k)) y.2 in
       let from : l < suc i = x.1 in
       let to : i ≤ k = leb-true i k z.0 in
       let within : k < length line = y.1 in
@@ -96,18 +97,18 @@ module _ {S : Type 0} (admits : ℕ → S → Bool) (e : Expr) (in_order : numbe
       let within : suc k ≤ length line = read.within in
       to_some (suc i) (λ l. some (length line) (λ k. leb i k && reads admits e line l (suc k))) l (omega arith)
       (to_some (length line) (λ k. leb i k && reads admits e line l (suc k)) k (omega arith)
-      (and_both (leb i k) (reads admits e line l (suc k)) (le-leb i k (omega arith)) (of_reads l (suc k) read)))
+      (and_from (leb i k) (reads admits e line l (suc k)) (le-leb i k (omega arith)) (of_reads l (suc k) read)))
 
-  of_covered : (i : ℕ) → Covered admits e line i → is_covered admits e line i ≡ true
+  of_covered : (i : ℕ) → Covered (Reads admits e line) i → is_covered admits e line i ≡ true
   of_covered i x = covered_by i x.left x.right x.from x.to x.reads
 
-  to_marked_right : (i mark : ℕ) → marked_right admits e line i mark ≡ true → MarkedRight admits e line i mark
+  to_marked_right : (i mark : ℕ) → marked_right admits e line i mark ≡ true → MarkedRight (Reads admits e line) i mark
   to_marked_right i mark h = by (is_covered admits e line i) refl h
     where
-      by : (b : Bool) → is_covered admits e line i ≡ b → cond b (eqb mark 1) (eqb mark 0) ≡ true → MarkedRight admits e line i mark
+      by : (b : Bool) → is_covered admits e line i ≡ b → cond b (eqb mark 1) (eqb mark 0) ≡ true → MarkedRight (Reads admits e line) i mark
       by true is h = inl (eqb-true mark 1 h, to_covered i is)
       by false is h = inr (eqb-true mark 0 h, λ x. both_ways (is_covered admits e line i) is (of_covered i x))
 
-  pub to_marks : (marks : List ℕ) → all_marked_right admits e line marks ≡ true → (i : ℕ) → i < length line → MarkedRight admits e line i (get_or marks i 0)
+  pub to_marks : (marks : List ℕ) → all_marked_right admits e line marks ≡ true → (i : ℕ) → i < length line → MarkedRight (Reads admits e line) i (get_or marks i 0)
   to_marks marks h i below =
       to_marked_right i (get_or marks i 0) (of_every (length line) (λ i. marked_right admits e line i (get_or marks i 0)) h i below)

@@ -1,8 +1,9 @@
 -- A matcher that computes: whether a string of symbols is read by some word of an expression.
 use Rattle.std.proofs.Common.{◌≡◌, ℕ, ◌+◌, Bool, true, ◌&&◌, List, [], ◌∷◌}
+use Rattle.std.proofs.lemmas.Bool.{and_from, and_parts}
 use Rattle.pattern.specs.Expressions.{Expr, Word}
 use Rattle.pattern.specs.Positions.{has_empty, begins, ends, follows, size, numbered}
-use Rattle.pattern.proofs.Sets.{and_true, and_both, to_null, of_null, to_first, of_first, to_last, of_last, to_follow, of_follow, to_ranged}
+use Rattle.pattern.proofs.Sets.{to_null, of_null, to_first, of_first, to_last, of_last, to_follow, of_follow, to_ranged}
 use Rattle.pattern.proofs.Spelled.{walk_word, in_first, in_follow}
 use Rattle.pattern.proofs.Walks.{Path, Walk, Ranged, word_walk}
 use Rattle.shelf.specs.Matching.{Admitted}
@@ -24,8 +25,8 @@ module _ {S : Type 0} (e : Expr) (n : ℕ) (admits : ℕ → S → Bool) where
   path_of p (s ∷ string) h =
       let x = of_some n (λ q. follows e p q && (admits q s && goes_on e n admits q string)) h in
       let q = x.0 in
-      let a = and_true (follows e p q) (admits q s && goes_on e n admits q string) x.2 in
-      let b = and_true (admits q s) (goes_on e n admits q string) a.1 in
+      let a = and_parts (follows e p q) (admits q s && goes_on e n admits q string) x.2 in
+      let b = and_parts (admits q s) (goes_on e n admits q string) a.1 in
       let r = path_of q string b.1 in
       (q ∷ r.0, (to_follow e p q a.0, r.1), (b.0, r.2))
 
@@ -34,8 +35,8 @@ module _ {S : Type 0} (e : Expr) (n : ℕ) (admits : ℕ → S → Bool) where
   walk_of (s ∷ string) h =
       let x = of_some n (λ q. begins e q && (admits q s && goes_on e n admits q string)) h in
       let q = x.0 in
-      let a = and_true (begins e q) (admits q s && goes_on e n admits q string) x.2 in
-      let b = and_true (admits q s) (goes_on e n admits q string) a.1 in
+      let a = and_parts (begins e q) (admits q s && goes_on e n admits q string) x.2 in
+      let b = and_parts (admits q s) (goes_on e n admits q string) a.1 in
       let r = path_of q string b.1 in
       (q ∷ r.0, (to_first e q a.0, r.1), (b.0, r.2))
 
@@ -46,8 +47,8 @@ module _ {S : Type 0} (e : Expr) (n : ℕ) (admits : ℕ → S → Bool) where
     on_path p (q ∷ w) [] x a = elim a [ ]
     on_path p (q ∷ w) (s ∷ string) x a =
         to_some n (λ q. follows e p q && (admits q s && goes_on e n admits q string)) q (in_follow x.0 1 n ranged).3
-        (and_both (follows e p q) (admits q s && goes_on e n admits q string) (of_follow x.0)
-        (and_both (admits q s) (goes_on e n admits q string) a.0 (on_path q w string x.1 a.1)))
+        (and_from (follows e p q) (admits q s && goes_on e n admits q string) (of_follow x.0)
+        (and_from (admits q s) (goes_on e n admits q string) a.0 (on_path q w string x.1 a.1)))
 
     on_walk : (w : List ℕ) (string : List S) → Walk e w → Admitted admits w string → matches e n admits string ≡ true
     on_walk [] [] x a = of_null x
@@ -55,8 +56,8 @@ module _ {S : Type 0} (e : Expr) (n : ℕ) (admits : ℕ → S → Bool) where
     on_walk (q ∷ w) [] x a = elim a [ ]
     on_walk (q ∷ w) (s ∷ string) x a =
         to_some n (λ q. begins e q && (admits q s && goes_on e n admits q string)) q (in_first x.0 1 n ranged).1
-        (and_both (begins e q) (admits q s && goes_on e n admits q string) (of_first x.0)
-        (and_both (admits q s) (goes_on e n admits q string) a.0 (on_path q w string x.1 a.1)))
+        (and_from (begins e q) (admits q s && goes_on e n admits q string) (of_first x.0)
+        (and_from (admits q s) (goes_on e n admits q string) a.0 (on_path q w string x.1 a.1)))
 
 -- the matcher is right, of an expression whose tests are numbered from 1 on
 module _ {S : Type 0} (e : Expr) (admits : ℕ → S → Bool) (in_order : numbered e 1 ≡ true) where

@@ -1,5 +1,6 @@
 -- A row of the table, as a check that computes.
 use Rattle.std.proofs.Common.{◌≡◌, ℕ, Bool, true, false, ◌&&◌, eqb, List, [], ◌∷◌, length, replicate, None, Ok, Err, sum, Result, refl, eqb-true}
+use Rattle.std.proofs.lemmas.Bool.{and_parts}
 use borrow.Author.Tests.{clash}
 use Rattle.alphabet.specs.Letters.{letter_reading}
 use Rattle.cue.specs.Leb128.{leb128}
@@ -8,7 +9,6 @@ use Rattle.pattern.specs.declared.fault.Fault.{Fault}
 use Rattle.pattern.specs.Expressions.{Expr, Syntax}
 use Rattle.pattern.specs.Positions.{numbered}
 use Rattle.pattern.specs.Scanning.{syntax_of}
-use Rattle.pattern.proofs.Sets.{and_true}
 use Rattle.shelf.specs.Matching.{test_admits}
 use Rattle.examples.specs.Table.{Written, reading, meaning, Example, refused_pattern, longest_is, no_match, marks_are, number_is, record_is, Lawful, AsListed, AllAsListed}
 use Rattle.examples.proofs.Checks.{is_longest, none_reads, all_marked_right, to_longest, to_none_reads, to_marks}
@@ -23,7 +23,7 @@ lawful w bytes check Holds right h = by (syntax_of (reading w) bytes) refl h
   where
     by : (r : Result Syntax Fault) → syntax_of (reading w) bytes ≡ r → passes w check r ≡ true → Lawful w bytes Holds
     by (Ok x) is h =
-        let b = and_true (numbered x.tree 1) (check (test_admits (meaning w) x.codes) x.tree) h in
+        let b = and_parts (numbered x.tree 1) (check (test_admits (meaning w) x.codes) x.tree) h in
         (x, is, right (test_admits (meaning w) x.codes) x.tree b.0 b.1)
     by (Err fault) is h = absurd (clash h)
 
@@ -44,8 +44,8 @@ as_listed (longest_is w bytes line ends) h =
 as_listed (no_match w bytes line) h =
     lawful w bytes (λ admits e. none_reads admits e line) _ (λ admits e in_order. to_none_reads admits e in_order line) h
 as_listed (marks_are w bytes line marks count) h =
-    let b = and_true (passes w (λ admits e. all_marked_right admits e line marks) (syntax_of (reading w) bytes)) (eqb (length marks) (length line) && eqb count (sum marks)) h in
-    let c = and_true (eqb (length marks) (length line)) (eqb count (sum marks)) b.1 in (
+    let b = and_parts (passes w (λ admits e. all_marked_right admits e line marks) (syntax_of (reading w) bytes)) (eqb (length marks) (length line) && eqb count (sum marks)) h in
+    let c = and_parts (eqb (length marks) (length line)) (eqb count (sum marks)) b.1 in (
       lawful w bytes (λ admits e. all_marked_right admits e line marks) _ (λ admits e in_order. to_marks admits e in_order line marks) b.0,
       eqb-true (length marks) (length line) c.0,
       eqb-true count (sum marks) c.1,

@@ -3,6 +3,7 @@ use Rattle.std.specs.Prelude.{◌≡◌, ℕ, ◌<◌, Bool, List, [], ◌∷◌
 use Rattle.alphabet.specs.declared.Cause.TheVariants.{OutOfRange}
 use Rattle.alphabet.specs.Letters.{letter_reading, letter_meaning}
 use Rattle.alphabet.specs.Words.{word_reading, word_meaning}
+use Rattle.automaton.specs.Stretches.{Longest, NoneReads, MarkedRight}
 use Rattle.cue.specs.Leb128.{leb128}
 use Rattle.cue.specs.Records.{record_of}
 use Rattle.pattern.specs.declared.fault.Fault.{Fault}
@@ -10,7 +11,7 @@ use Rattle.pattern.specs.declared.fault.Fault.TheVariants.{BadTest, MissingUnit,
 use Rattle.pattern.specs.Expressions.{Expr, Syntax}
 use Rattle.pattern.specs.Scanning.{syntax_of}
 use Rattle.pattern.specs.Tokens.{Reading}
-use Rattle.shelf.specs.Matching.{test_admits, Longest, NoneReads, MarkedRight}
+use Rattle.shelf.specs.Matching.{test_admits, Reads}
 
 -- the notation in which a pattern is written; either has numbers for symbols
 pub data Written : Type 0 where
@@ -45,10 +46,10 @@ Lawful w bytes Holds = (x : Syntax) × (syntax_of (reading w) bytes ≡ Ok x) ×
 
 abbrev pub AsListed : Example → Type 0
 AsListed (refused_pattern bytes fault) = syntax_of letter_reading bytes ≡ Err fault
-AsListed (longest_is w bytes line ends) = Lawful w bytes (λ admits e. Longest admits e line ends)
-AsListed (no_match w bytes line) = Lawful w bytes (λ admits e. NoneReads admits e line)
+AsListed (longest_is w bytes line ends) = Lawful w bytes (λ admits e. Longest (Reads admits e line) ends)
+AsListed (no_match w bytes line) = Lawful w bytes (λ admits e. NoneReads (Reads admits e line))
 AsListed (marks_are w bytes line marks count) =
-    Lawful w bytes (λ admits e. (i : ℕ) → i < length line → MarkedRight admits e line i (slice_index marks i))
+    Lawful w bytes (λ admits e. (i : ℕ) → i < length line → MarkedRight (Reads admits e line) i (slice_index marks i))
     × (length marks ≡ length line)
     × (count ≡ sum marks)
 AsListed (number_is n bytes) = leb128 n ≡ bytes

@@ -1,21 +1,15 @@
 -- What the reader's functions do comes to what the scan from left to right comes to.
-use Rattle.std.proofs.Common.{◌≡◌, ℕ, zero, suc, ◌+◌, ◌<◌, ◌≤◌, true, false, cond, ltb, List, [], ◌∷◌, ◌++◌, length, drop, Ok, Err, Result, sym, refl, ap, ◌∙◌, subst, add-one, arith}
-use borrow.Author.Tests.{lt-true, le-false}
+use Rattle.std.proofs.Common.{◌≡◌, ◌≢◌, ℕ, zero, suc, ◌+◌, ◌<◌, ◌≤◌, true, false, List, [], ◌∷◌, ◌++◌, length, drop, Ok, Err, Result, sym, refl, ap, ◌∙◌, subst, add-one, arith}
+use Rattle.std.proofs.lemmas.Bool.{lt-ltb, le-ltb, cond-true, cond-false}
 use Rattle.pattern.specs.declared.fault.Fault.{Fault}
-use Rattle.pattern.specs.declared.fault.Fault.TheVariants.{MissingUnit, LooseBracket, TooDeep, TooManyTests, TooManyTags, RepeatedTag}
+use Rattle.pattern.specs.declared.fault.Fault.TheVariants.{MissingUnit, LooseBracket, TooDeep}
 use Rattle.pattern.specs.declared.token.Kind.{Kind}
 use Rattle.pattern.specs.declared.token.Token.{Token}
-use Rattle.pattern.specs.Expressions.{Expr, test, either, star, plus, tag, Syntax}
+use Rattle.pattern.specs.Expressions.{Expr, test, either, tag, Syntax}
 use Rattle.pattern.specs.Tokens.{code_of, tag_of}
 use Rattle.pattern.specs.Scanning.{Before, nothing, so_far, join, choose, Bracket, whole, plain, tagged, Frame, frame, State, want, have, Step, go, stop, unit_step, step, at_end, conclude, scan, scanned}
-use Rattle.pattern.specs.Descent.{Source, look, at, kind_at, offset_at, codes, tags, is_end, is_or, is_unit, is_close, is_close_tag, is_repeat, is_opening, Out, good, bad, Want, group, branch, item, unit, branches, items, repeats, Reads, group_then, group_bad, branches_end, branches_or, branches_bad, branch_then, branch_bad, items_end, items_more, items_bad, item_then, item_bad, unit_test, unit_tests, unit_misread, unit_deep, unit_group, unit_group_bad, unit_group_loose, unit_tags, unit_tag, unit_tag_bad, unit_tag_loose, unit_none, repeats_end, repeats_star, repeats_star_tag, repeats_plus, repeats_plus_tag, repeats_opt, Whole, ended, fault, loose}
-use Rattle.pattern.proofs.Steps.{codes_next, tags_next, absurd_of, is_or_lem, is_close_lem, is_close_tag_lem}
-
-pub is_below : (a b : ℕ) → a < b → ltb a b ≡ true
-is_below a b h = sym (lt-true a b h)
-
-pub not_below : (a b : ℕ) → b ≤ a → ltb a b ≡ false
-not_below a b h = sym (le-false a b h)
+use Rattle.pattern.specs.Descent.{Source, look, at, kind_at, offset_at, codes, tags, is_end, is_unit, is_repeat, is_opening, Out, good, bad, Want, group, branch, item, unit, branches, items, repeats, Parses, group_then, group_bad, branches_end, branches_or, branches_bad, branch_then, branch_bad, items_end, items_more, items_bad, item_then, item_bad, unit_test, unit_tests, unit_misread, unit_deep, unit_group, unit_group_bad, unit_group_loose, unit_tags, unit_tag, unit_tag_bad, unit_tag_loose, unit_none, repeats_end, repeats_star, repeats_star_tag, repeats_plus, repeats_plus_tag, repeats_opt, Whole, ended, fault, loose}
+use Rattle.pattern.proofs.Steps.{codes_next, tags_next, absurd_of}
 
 -- the scan from a place
 abbrev run : Source → State → ℕ → Result Syntax Fault
@@ -70,17 +64,8 @@ data Ending : Kind → Type 0 where
   at_close_tag : Ending Kind.CloseTag
   at_the_end : Ending Kind.End
 
-ending : (k : Kind) → is_repeat k ≡ false → is_unit k ≡ false → is_or k ≡ false → Ending k
-ending Kind.Or r u o = absurd_of (sym o)
-ending Kind.Star r u o = absurd_of (sym r)
-ending Kind.Plus r u o = absurd_of (sym r)
-ending Kind.Opt r u o = absurd_of (sym r)
-ending Kind.Open r u o = absurd_of (sym u)
-ending Kind.Close r u o = at_close
-ending Kind.OpenTag r u o = absurd_of (sym u)
-ending Kind.CloseTag r u o = at_close_tag
-ending (Kind.Test x) r u o = absurd_of (sym u)
-ending Kind.End r u o = at_the_end
+ending : (k : Kind) → is_repeat k ≡ false → is_unit k ≡ false → k ≢ Kind.Or → Ending k
+ending k r u o = grind (arith, at_close, at_close_tag, at_the_end)
 
 abbrev At : Source → Out → (Kind → Type 0) → Type 0
 At s (good e j) P = P (kind_at s j)
@@ -95,7 +80,7 @@ Stops s (item d) i o = At s o (λ k. is_repeat k ≡ false)
 Stops s (unit d) i o = Unit {0}
 Stops s (repeats e) i o = At s o (λ k. is_repeat k ≡ false)
 
-stops : {s : Source} {w : Want} {i : ℕ} {o : Out} → Reads s w i o → Stops s w i o
+stops : {s : Source} {w : Want} {i : ℕ} {o : Out} → Parses s w i o → Stops s w i o
 stops (group_then d r) = let x = stops d in stops r x.0 x.1
 stops (group_bad d) = tt
 stops (branches_end h) = λ r u. ending _ r u h
@@ -128,72 +113,25 @@ stops (repeats_plus_tag h n) = tt
 stops (repeats_opt h r) = stops r
 
 unit_same : (k : Kind) → is_unit k ≡ true → (b : Bracket) (x y : Before) (u : Expr) (gs : List Frame) (i t g : ℕ) → step (have (frame b x y) u gs) i t g k ≡ step (want (frame b x (so_far (join y u))) gs) i t g k
-unit_same Kind.Or e b x y u gs i t g = absurd_of e
-unit_same Kind.Star e b x y u gs i t g = absurd_of e
-unit_same Kind.Plus e b x y u gs i t g = absurd_of e
-unit_same Kind.Opt e b x y u gs i t g = absurd_of e
-unit_same Kind.Open e b x y u gs i t g = refl
-unit_same Kind.Close e b x y u gs i t g = absurd_of e
-unit_same Kind.OpenTag e b x y u gs i t g = refl
-unit_same Kind.CloseTag e b x y u gs i t g = absurd_of e
-unit_same (Kind.Test r) e b x y u gs i t g = refl
-unit_same Kind.End e b x y u gs i t g = absurd_of e
+unit_same k e b x y u gs i t g = grind arith
 
 no_unit_stop : (k : Kind) → is_unit k ≡ false → (f : Frame) (gs : List Frame) (i t g : ℕ) → unit_step f gs i t g k ≡ stop (Err (MissingUnit i))
-no_unit_stop Kind.Or e f gs i t g = refl
-no_unit_stop Kind.Star e f gs i t g = refl
-no_unit_stop Kind.Plus e f gs i t g = refl
-no_unit_stop Kind.Opt e f gs i t g = refl
-no_unit_stop Kind.Open e f gs i t g = absurd_of (sym e)
-no_unit_stop Kind.Close e f gs i t g = refl
-no_unit_stop Kind.OpenTag e f gs i t g = absurd_of (sym e)
-no_unit_stop Kind.CloseTag e f gs i t g = refl
-no_unit_stop (Kind.Test r) e f gs i t g = absurd_of (sym e)
-no_unit_stop Kind.End e f gs i t g = refl
+no_unit_stop k e f gs i t g = grind arith
 
-loose_stop : {k : Kind} → Ending k → is_close k ≡ false → (x y : Before) (u : Expr) (gs : List Frame) (i t g : ℕ) → step (have (frame plain x y) u gs) i t g k ≡ stop (Err (LooseBracket i))
-loose_stop at_close e x y u gs i t g = absurd_of (sym e)
-loose_stop at_close_tag e x y u gs i t g = refl
-loose_stop at_the_end e x y u gs i t g = refl
+loose_stop : {k : Kind} → Ending k → k ≢ Kind.Close → (x y : Before) (u : Expr) (gs : List Frame) (i t g : ℕ) → step (have (frame plain x y) u gs) i t g k ≡ stop (Err (LooseBracket i))
+loose_stop n e x y u gs i t g = grind arith
 
-loose_tag_stop : {k : Kind} → Ending k → is_close_tag k ≡ false → (n : ℕ) (x y : Before) (u : Expr) (gs : List Frame) (i t g : ℕ) → step (have (frame (tagged n) x y) u gs) i t g k ≡ stop (Err (LooseBracket i))
-loose_tag_stop at_close e n x y u gs i t g = refl
-loose_tag_stop at_close_tag e n x y u gs i t g = absurd_of (sym e)
-loose_tag_stop at_the_end e n x y u gs i t g = refl
+loose_tag_stop : {k : Kind} → Ending k → k ≢ Kind.CloseTag → (n : ℕ) (x y : Before) (u : Expr) (gs : List Frame) (i t g : ℕ) → step (have (frame (tagged n) x y) u gs) i t g k ≡ stop (Err (LooseBracket i))
+loose_tag_stop h e n x y u gs i t g = grind arith
 
-loose_whole_stop : {k : Kind} → Ending k → is_end k ≡ false → (x y : Before) (u : Expr) (gs : List Frame) (i t g : ℕ) → step (have (frame whole x y) u gs) i t g k ≡ stop (Err (LooseBracket i))
-loose_whole_stop at_close e x y u gs i t g = refl
-loose_whole_stop at_close_tag e x y u gs i t g = refl
-loose_whole_stop at_the_end e x y u gs i t g = absurd_of (sym e)
-
-end_stop : {k : Kind} → Ending k → is_end k ≡ true → (x y : Before) (u : Expr) (gs : List Frame) (i t g : ℕ) → step (have (frame whole x y) u gs) i t g k ≡ stop (Ok (choose x (join y u)))
-end_stop at_close e x y u gs i t g = absurd_of e
-end_stop at_close_tag e x y u gs i t g = absurd_of e
-end_stop at_the_end e x y u gs i t g = refl
+loose_whole_stop : {k : Kind} → Ending k → k ≢ Kind.End → (x y : Before) (u : Expr) (gs : List Frame) (i t g : ℕ) → step (have (frame whole x y) u gs) i t g k ≡ stop (Err (LooseBracket i))
+loose_whole_stop h e x y u gs i t g = grind arith
 
 deep_stop : (k : Kind) → is_opening k ≡ true → (f : Frame) (gs : List Frame) (i t g : ℕ) → 8 ≤ length gs → unit_step f gs i t g k ≡ stop (Err (TooDeep i))
-deep_stop Kind.Or e f gs i t g h = absurd_of e
-deep_stop Kind.Star e f gs i t g h = absurd_of e
-deep_stop Kind.Plus e f gs i t g h = absurd_of e
-deep_stop Kind.Opt e f gs i t g h = absurd_of e
-deep_stop Kind.Open e f gs i t g h = ap (λ z. cond z (go (want (frame plain nothing nothing) (f ∷ gs))) (stop (Err (TooDeep i)))) (not_below _ _ h)
-deep_stop Kind.Close e f gs i t g h = absurd_of e
-deep_stop Kind.OpenTag e f gs i t g h = ap (λ z. cond z (cond (ltb g 8) (go (want (frame (tagged (g + 1)) nothing nothing) (f ∷ gs))) (stop (Err (TooManyTags i)))) (stop (Err (TooDeep i)))) (not_below _ _ h)
-deep_stop Kind.CloseTag e f gs i t g h = absurd_of e
-deep_stop (Kind.Test r) e f gs i t g h = absurd_of e
-deep_stop Kind.End e f gs i t g h = absurd_of e
+deep_stop k e f gs i t g h = grind arith
 
 unit_not_end : (k : Kind) → is_unit k ≡ true → is_end k ≡ false
-unit_not_end Kind.Or e = refl
-unit_not_end Kind.Star e = refl
-unit_not_end Kind.Plus e = refl
-unit_not_end Kind.Opt e = refl
-unit_not_end Kind.Open e = refl
-unit_not_end Kind.Close e = refl
-unit_not_end Kind.OpenTag e = refl
-unit_not_end Kind.CloseTag e = refl
-unit_not_end (Kind.Test r) e = refl
-unit_not_end Kind.End e = absurd_of e
+unit_not_end k e = grind arith
 
 -- how the scan goes on after a part
 abbrev onward : Source → Frame → Expr → List Frame → Out → Result Syntax Fault
@@ -217,8 +155,8 @@ Claim s (item d) i o = (f : Frame) (gs : List Frame) → length gs ≡ d → run
 Claim s (unit d) i o = (f : Frame) (gs : List Frame) → length gs ≡ d → run s (want f gs) i ≡ by_item s f gs o
 Claim s (repeats e) i o = (f : Frame) (gs : List Frame) → run s (have f e gs) i ≡ by_item s f gs o
 
-over_or : (s : Source) (i : ℕ) → is_or (kind_at s i) ≡ true → (k : Bracket) (a b : Before) (u e : Expr) → choose a (join b u) ≡ e → (gs : List Frame) → run s (have (frame k a b) u gs) i ≡ run s (want (frame k (so_far e) nothing) gs) (i + 1)
-over_or s i h k a b u e q gs = run_go s i Kind.Or _ _ (is_or_lem _ h) refl refl ∙ ap (λ x. run s (want (frame k (so_far x) nothing) gs) (i + 1)) q
+over_or : (s : Source) (i : ℕ) → kind_at s i ≡ Kind.Or → (k : Bracket) (a b : Before) (u e : Expr) → choose a (join b u) ≡ e → (gs : List Frame) → run s (have (frame k a b) u gs) i ≡ run s (want (frame k (so_far e) nothing) gs) (i + 1)
+over_or s i h k a b u e q gs = run_go s i Kind.Or _ _ h refl refl ∙ ap (λ x. run s (want (frame k (so_far x) nothing) gs) (i + 1)) q
 
 -- two states that take the token at a place alike
 same_scan : (s : Source) (i : ℕ) (st st' : State) → is_end (kind_at s i) ≡ false → step_at s st i (kind_at s i) ≡ step_at s st' i (kind_at s i) → run s st i ≡ run s st' i
@@ -231,23 +169,23 @@ over_unit : (s : Source) (i : ℕ) → is_unit (kind_at s i) ≡ true → (k : B
 over_unit s i h k a b u e q gs = same_scan s i _ _ (unit_not_end _ h) (unit_same (kind_at s i) h k a b u gs _ _ _) ∙ ap (λ x. run s (want (frame k a (so_far x)) gs) i) q
 
 over_open : (s : Source) (i d : ℕ) → kind_at s i ≡ Kind.Open → d < 8 → (f : Frame) (gs : List Frame) → length gs ≡ d → run s (want f gs) i ≡ run s (want (frame plain nothing nothing) (f ∷ gs)) (i + 1)
-over_open s i d h n f gs l = run_go s i Kind.Open _ _ h refl (ap (λ z. cond z (go (want (frame plain nothing nothing) (f ∷ gs))) (stop (Err (TooDeep (offset_at s i))))) (is_below (length gs) 8 (omega arith)))
+over_open s i d h n f gs l = run_go s i Kind.Open _ _ h refl (cond-true _ _ _ (lt-ltb (length gs) 8 (omega arith)))
 
 over_tag : (s : Source) (i d : ℕ) → kind_at s i ≡ Kind.OpenTag → d < 8 → tags s i < 8 → (f : Frame) (gs : List Frame) → length gs ≡ d → run s (want f gs) i ≡ run s (want (frame (tagged (tags s i + 1)) nothing nothing) (f ∷ gs)) (i + 1)
 over_tag s i d h n m f gs l =
     let x : Step = go (want (frame (tagged (tags s i + 1)) nothing nothing) (f ∷ gs)) in
-    run_go s i Kind.OpenTag _ _ h refl (ap (λ z. cond z (cond (ltb (tags s i) 8) x (stop (Err (TooManyTags (offset_at s i))))) (stop (Err (TooDeep (offset_at s i))))) (is_below (length gs) 8 (omega arith)) ∙ ap (λ z. cond z x (stop (Err (TooManyTags (offset_at s i))))) (is_below (tags s i) 8 m))
+    run_go s i Kind.OpenTag _ _ h refl (cond-true _ _ _ (lt-ltb (length gs) 8 (omega arith)) ∙ cond-true _ _ _ (lt-ltb (tags s i) 8 m))
 
-over_close : (s : Source) (i : ℕ) → is_close (kind_at s i) ≡ true → (a b : Before) (u e : Expr) → choose a (join b u) ≡ e → (f : Frame) (gs : List Frame) → run s (have (frame plain a b) u (f ∷ gs)) i ≡ run s (have f e gs) (i + 1)
-over_close s i h a b u e q f gs = run_go s i Kind.Close _ _ (is_close_lem _ h) refl refl ∙ ap (λ x. run s (have f x gs) (i + 1)) q
+over_close : (s : Source) (i : ℕ) → kind_at s i ≡ Kind.Close → (a b : Before) (u e : Expr) → choose a (join b u) ≡ e → (f : Frame) (gs : List Frame) → run s (have (frame plain a b) u (f ∷ gs)) i ≡ run s (have f e gs) (i + 1)
+over_close s i h a b u e q f gs = run_go s i Kind.Close _ _ h refl refl ∙ ap (λ x. run s (have f x gs) (i + 1)) q
 
-over_close_tag : (s : Source) (i n : ℕ) → is_close_tag (kind_at s i) ≡ true → (a b : Before) (u e : Expr) → choose a (join b u) ≡ e → (f : Frame) (gs : List Frame) → run s (have (frame (tagged n) a b) u (f ∷ gs)) i ≡ run s (have f (tag n e) gs) (i + 1)
-over_close_tag s i n h a b u e q f gs = run_go s i Kind.CloseTag _ _ (is_close_tag_lem _ h) refl refl ∙ ap (λ x. run s (have f (tag n x) gs) (i + 1)) q
+over_close_tag : (s : Source) (i n : ℕ) → kind_at s i ≡ Kind.CloseTag → (a b : Before) (u e : Expr) → choose a (join b u) ≡ e → (f : Frame) (gs : List Frame) → run s (have (frame (tagged n) a b) u (f ∷ gs)) i ≡ run s (have f (tag n e) gs) (i + 1)
+over_close_tag s i n h a b u e q f gs = run_go s i Kind.CloseTag _ _ h refl refl ∙ ap (λ x. run s (have f (tag n x) gs) (i + 1)) q
 
 more : (f : Frame) (gs : List Frame) (d : ℕ) → length gs ≡ d → length (f ∷ gs) ≡ d + 1
 more f gs d l = omega arith
 
-agree : {s : Source} {w : Want} {i : ℕ} {o : Out} → Reads s w i o → Claim s w i o
+agree : {s : Source} {w : Want} {i : ℕ} {o : Out} → Parses s w i o → Claim s w i o
 agree (group_then d r) = λ k.
     let x = agree d k nothing in
     let y = agree r k nothing x.0 x.1 x.2 in
@@ -270,8 +208,8 @@ agree (items_more {e = e} {f = f} {i = i} h d r) = λ k a b u q.
 agree (items_bad {e = e} {i = i} h d) = λ k a b u q. (b, u, tt, λ gs l. over_unit _ i h k a b u e q gs ∙ agree d (frame k a (so_far e)) gs l)
 agree (item_then d r) = λ f gs l. agree d f gs l ∙ agree r f gs
 agree (item_bad d) = λ f gs l. agree d f gs l
-agree {s = s} (unit_test {i = i} {c = c} h n) = λ f gs l. run_go s i (Kind.Test (Ok c)) _ _ h refl (ap (λ z. cond z (go (have f (test (length (codes s i) + 1)) gs)) (stop (Err (TooManyTests (offset_at s i))))) (is_below (length (codes s i)) 64 n))
-agree {s = s} (unit_tests {i = i} {c = c} h n) = λ f gs l. run_stop s i (Kind.Test (Ok c)) _ _ h (ap (λ z. cond z (go (have f (test (length (codes s i) + 1)) gs)) (stop (Err (TooManyTests (offset_at s i))))) (not_below (length (codes s i)) 64 n))
+agree {s = s} (unit_test {i = i} {c = c} h n) = λ f gs l. run_go s i (Kind.Test (Ok c)) _ _ h refl (cond-true _ _ _ (lt-ltb (length (codes s i)) 64 n))
+agree {s = s} (unit_tests {i = i} {c = c} h n) = λ f gs l. run_stop s i (Kind.Test (Ok c)) _ _ h (cond-false _ _ _ (le-ltb (length (codes s i)) 64 n))
 agree {s = s} (unit_misread {i = i} {m = m} h) = λ f gs l. run_stop s i (Kind.Test (Err m)) _ _ h refl
 agree {s = s} (unit_deep {i = i} h n) = λ f gs l. run_stop s i (kind_at s i) _ _ refl (deep_stop _ h f gs _ _ _ (omega arith))
 agree {s = s} (unit_group {d = d₀} {i = i} {e = e} {j = j} h n d m) = λ f gs l.
@@ -283,7 +221,7 @@ agree {s = s} (unit_group_loose {d = d₀} {i = i} {j = j} h n d m) = λ f gs l.
     over_open s i d₀ h n f gs l ∙ x.4 (f ∷ gs) (more f gs d₀ l) ∙ run_stop s j (kind_at s j) _ _ refl (loose_stop (stops d) m x.0 x.1 x.2 (f ∷ gs) _ _ _)
 agree {s = s} (unit_tags {i = i} h n m) = λ f gs l.
     let x : Step = go (want (frame (tagged (tags s i + 1)) nothing nothing) (f ∷ gs)) in
-    run_stop s i Kind.OpenTag _ _ h (ap (λ z. cond z (cond (ltb (tags s i) 8) x (stop (Err (TooManyTags (offset_at s i))))) (stop (Err (TooDeep (offset_at s i))))) (is_below (length gs) 8 (omega arith)) ∙ ap (λ z. cond z x (stop (Err (TooManyTags (offset_at s i))))) (not_below (tags s i) 8 m))
+    run_stop s i Kind.OpenTag _ _ h (cond-true _ _ _ (lt-ltb (length gs) 8 (omega arith)) ∙ cond-false _ _ _ (le-ltb (tags s i) 8 m))
 agree {s = s} (unit_tag {d = d₀} {i = i} {e = e} {j = j} h n g d m) = λ f gs l.
     let x = agree d (tagged (tags s i + 1)) in
     over_tag s i d₀ h n g f gs l ∙ x.4 (f ∷ gs) (more f gs d₀ l) ∙ over_close_tag s j (tags s i + 1) m x.0 x.1 x.2 e x.3 f gs
@@ -293,10 +231,10 @@ agree {s = s} (unit_tag_loose {d = d₀} {i = i} {j = j} h n g d m) = λ f gs l.
     over_tag s i d₀ h n g f gs l ∙ x.4 (f ∷ gs) (more f gs d₀ l) ∙ run_stop s j (kind_at s j) _ _ refl (loose_tag_stop (stops d) m (tags s i + 1) x.0 x.1 x.2 (f ∷ gs) _ _ _)
 agree {s = s} (unit_none {i = i} h) = λ f gs l. run_stop s i (kind_at s i) _ _ refl (no_unit_stop _ h f gs _ _ _)
 agree (repeats_end h) = λ f gs. refl
-agree {s = s} (repeats_star {e = e} {i = i} h n r) = λ f gs. run_go s i Kind.Star _ _ h refl (ap (λ z. cond z (stop (Err (RepeatedTag (offset_at s i)))) (go (have f (star e) gs))) n) ∙ agree r f gs
-agree {s = s} (repeats_star_tag {e = e} {i = i} h n) = λ f gs. run_stop s i Kind.Star _ _ h (ap (λ z. cond z (stop (Err (RepeatedTag (offset_at s i)))) (go (have f (star e) gs))) n)
-agree {s = s} (repeats_plus {e = e} {i = i} h n r) = λ f gs. run_go s i Kind.Plus _ _ h refl (ap (λ z. cond z (stop (Err (RepeatedTag (offset_at s i)))) (go (have f (plus e) gs))) n) ∙ agree r f gs
-agree {s = s} (repeats_plus_tag {e = e} {i = i} h n) = λ f gs. run_stop s i Kind.Plus _ _ h (ap (λ z. cond z (stop (Err (RepeatedTag (offset_at s i)))) (go (have f (plus e) gs))) n)
+agree {s = s} (repeats_star {e = e} {i = i} h n r) = λ f gs. run_go s i Kind.Star _ _ h refl (cond-false _ _ _ n) ∙ agree r f gs
+agree {s = s} (repeats_star_tag {e = e} {i = i} h n) = λ f gs. run_stop s i Kind.Star _ _ h (cond-true _ _ _ n)
+agree {s = s} (repeats_plus {e = e} {i = i} h n r) = λ f gs. run_go s i Kind.Plus _ _ h refl (cond-false _ _ _ n) ∙ agree r f gs
+agree {s = s} (repeats_plus_tag {e = e} {i = i} h n) = λ f gs. run_stop s i Kind.Plus _ _ h (cond-true _ _ _ n)
 agree {s = s} (repeats_opt {i = i} h r) = λ f gs. run_go s i Kind.Opt _ _ h refl refl ∙ agree r f gs
 
 begins : (end : ℕ) (ts : List Token) → scanned end ts ≡ run (record { list = ts; end = end }) (want (frame whole nothing nothing) []) 0
@@ -311,7 +249,7 @@ outcome s (bad f) = Err f
 pub whole_scan : {s : Source} {o : Out} → Whole s o → scanned s.end s.list ≡ outcome s o
 whole_scan {s = s} (ended {j = j} d n) =
     let x = agree d whole in
-    begins s.end s.list ∙ x.4 [] refl ∙ run_stop s j (kind_at s j) _ _ refl (end_stop (stops d) n x.0 x.1 x.2 [] _ _ _) ∙ ap (λ e. Ok (record { tree = e; codes = codes s j; tags = tags s j })) x.3
+    begins s.end s.list ∙ x.4 [] refl ∙ run_stop s j Kind.End _ _ n refl ∙ ap (λ e. Ok (record { tree = e; codes = codes s j; tags = tags s j })) x.3
 whole_scan {s = s} (fault d) = let x = agree d whole in begins s.end s.list ∙ x.4 [] refl
 whole_scan {s = s} (loose {j = j} d n) =
     let x = agree d whole in

@@ -1,63 +1,27 @@
 -- Sets of positions, by what is in them.
-use Rattle.std.proofs.Common.{◌≡◌, ℕ, ◌+◌, ◌-◌, ◌*◌, ◌/◌, ◌%◌, ◌^◌, ◌<◌, Bool, true, false, cond, ◌&&◌, ◌||◌, eqb, ◌⊎◌, List, length, get_or, set, sym, refl, ap, ◌∙◌, subst, inl, inr, arith, get_or-set_other, get_or-set_same, eqb-true}
+use Rattle.std.proofs.Common.{◌≡◌, ℕ, ◌^◌, ◌<◌, Bool, true, false, cond, ◌&&◌, ◌||◌, eqb, ◌⊎◌, List, length, get_or, set, sym, refl, subst, inl, inr, get_or-set_other, get_or-set_same, eqb-true}
 use lib.Bits.{bit_or}
-use borrow.Author.Tests.{eq-true}
-use Rattle.std.proofs.lemmas.Nat.{pow_pos, pow-add, pow_below, shl-shr, div_below}
-use Rattle.std.proofs.lemmas.Bool.{cases_eq, cases_lt}
-use Rattle.automaton.specs.Bit.{In}
-use Rattle.automaton.proofs.Bits.{in_or, or_in, in_zero}
-use Rattle.pattern.specs.Positions.{bit}
-use Rattle.pattern.proofs.Steps.{absurd_of}
-use Rattle.pattern.proofs.Sets.{or_true, or_left, or_right}
+use Rattle.std.proofs.lemmas.Bool.{cases_eq, or_cases, or_left, or_right, eq-eqb}
+use Rattle.automaton.specs.Bit.{In, bit}
+use Rattle.automaton.proofs.Bits.{in_or, or_in, one_in, in_one}
+use Rattle.automaton.proofs.BitTests.{bit_in, in_bit, same_test, bit_none}
 
-pub bit_in : {x k : ℕ} → bit x k ≡ true → In x k
-bit_in {x = x} {k = k} e = record { is = eqb-true ((x / 2 ^ k) % 2) 1 e }
-
-pub in_bit : {x k : ℕ} → In x k → bit x k ≡ true
-in_bit {x = x} {k = k} e = sym (eq-true ((x / 2 ^ k) % 2) 1 e.is)
-
--- two tests that come out true together are one
-pub same_test : (a b : Bool) → (a ≡ true → b ≡ true) → (b ≡ true → a ≡ true) → a ≡ b
-same_test true b f g = sym (f refl)
-same_test false true f g = g refl
-same_test false false f g = refl
-
-pub bit-or : (x y k : ℕ) → bit (bit_or x y) k ≡ bit x k || bit y k
-bit-or x y k =
+pub bit_union : (x y k : ℕ) → bit (bit_or x y) k ≡ bit x k || bit y k
+bit_union x y k =
     same_test _ _
     (λ e. elim (in_or {x = x} {y = y} (bit_in {x = bit_or x y} {k = k} e)) [ inl a ↦ or_left (bit x k) (bit y k) (in_bit a) | inr b ↦ or_right (bit x k) (bit y k) (in_bit b) ])
-    (λ e. in_bit (elim (or_true (bit x k) (bit y k) e) [ inl a ↦ or_in {x = x} {y = y} (inl (bit_in {x = x} {k = k} a)) | inr b ↦ or_in {x = x} {y = y} (inr (bit_in {x = y} {k = k} b)) ]))
-
-pub bit_none : (k : ℕ) → bit 0 k ≡ false
-bit_none k = same_test _ _ (λ e. elim (in_zero (bit_in {x = 0} {k = k} e)) [ ]) (λ e. absurd_of e)
+    (λ e. in_bit (elim (or_cases (bit x k) (bit y k) e) [ inl a ↦ or_in {x = x} {y = y} (inl (bit_in {x = x} {k = k} a)) | inr b ↦ or_in {x = x} {y = y} (inr (bit_in {x = y} {k = k} b)) ]))
 
 -- a set, or none
 pub bit_if : (b : Bool) (x k : ℕ) → bit (cond b x 0) k ≡ b && bit x k
 bit_if true x k = refl
 bit_if false x k = bit_none k
 
-in_power : (j k : ℕ) → In (2 ^ j) k → j ≡ k
-in_power j k e = elim (cases_eq j k) [
-  | inl s ↦ s
-  | inr ne ↦ elim (cases_lt j k) [
-    | inl below ↦ (let z : 2 ^ j / 2 ^ k < 1 = div_below (2 ^ j) (2 ^ k) 1 (pow_pos k) (omega (arith, pow_below j k below)) in absurd (omega (arith, e.is)))
-    | inr above ↦
-        (let d = j - k - 1 in
-        let split : j ≡ (d + 1) + k = omega arith in
-        let high : 2 ^ j ≡ 2 ^ d * 2 * 2 ^ k = ap (λ n. 2 ^ n) split ∙ pow-add 2 (d + 1) k ∙ ap (λ n. n * 2 ^ k) (pow-add 2 d 1) in
-        let even : (2 ^ j / 2 ^ k) % 2 ≡ 0 = ap (λ n. (n / 2 ^ k) % 2) high ∙ ap (λ n. n % 2) (shl-shr (2 ^ d * 2) k) ∙ omega arith in
-        absurd (omega (arith, e.is)))
-  ]
-]
-
-power_in : (k : ℕ) → In (2 ^ k) k
-power_in k = record { is = ap (λ n. (n / 2 ^ k) % 2) (let e : 2 ^ k ≡ 1 * 2 ^ k = omega arith in e) ∙ ap (λ n. n % 2) (shl-shr 1 k) }
-
 pub bit_one : (j k : ℕ) → bit (2 ^ j) k ≡ eqb j k
 bit_one j k =
     same_test _ _
-    (λ e. sym (eq-true j k (in_power j k (bit_in {x = 2 ^ j} {k = k} e))))
-    (λ e. in_bit (subst (λ n. In (2 ^ j) n) (eqb-true j k e) (power_in j)))
+    (λ e. eq-eqb j k (sym (in_one j k (bit_in {x = 2 ^ j} {k = k} e))))
+    (λ e. in_bit (subst (λ n. In (2 ^ j) n) (eqb-true j k e) (one_in j)))
 
 -- a table in which one set was widened
 module _ (xs : List ℕ) (t more : ℕ) (within : t < length xs) where

@@ -1,7 +1,7 @@
 -- Tokens one after another.
-use Rattle.std.proofs.Common.{◌≡◌, ℕ, zero, suc, ◌+◌, ◌-◌, ◌<◌, ◌≤◌, false, List, [], ◌∷◌, ◌++◌, length, get_or, take, drop, set, Some, None, Option, sym, refl, ap, ◌∙◌, subst, append_assoc, arith, length-drop, drop-cons, drop-drop}
-use Rattle.std.proofs.lemmas.List.{take_more_set, drop_all}
-use Rattle.alphabet.specs.Signs.{is_sign, BeginsNoSign}
+use Rattle.std.proofs.Common.{◌≡◌, ℕ, zero, suc, ◌+◌, ◌-◌, ◌<◌, ◌≤◌, false, List, [], ◌∷◌, ◌++◌, length, drop, Some, None, Option, sym, refl, ap, ◌∙◌, append_assoc, arith, length-drop, drop-drop}
+use Rattle.std.proofs.lemmas.List.{drop_all}
+use Rattle.alphabet.specs.Signs.{is_sign}
 use Rattle.pattern.specs.declared.token.Kind.{Kind}
 use Rattle.pattern.specs.declared.token.Token.{Token}
 use Rattle.pattern.specs.Tokens.{Reading, SameReading, sign_kind, token, tested, first_token, tokens_from, tokens}
@@ -10,24 +10,9 @@ use Rattle.pattern.specs.Tokens.{Reading, SameReading, sign_kind, token, tested,
 no_sign : (b : ℕ) → sign_kind b ≡ None → is_sign b ≡ false
 no_sign b e = grind arith
 
--- bytes from an offset on, by their first
-pub front : (bytes : List ℕ) (at : ℕ) → at < length bytes → drop at bytes ≡ get_or bytes at 0 ∷ drop (suc at) bytes
-front bytes at h = drop-cons bytes at 0 h
-
-pub begins : (bytes : List ℕ) (at : ℕ) → at < length bytes → sign_kind (get_or bytes at 0) ≡ None → BeginsNoSign (drop at bytes)
-begins bytes at h e = subst BeginsNoSign (sym (front bytes at h)) (no_sign (get_or bytes at 0) e)
-
 -- what the first token is, by what its first byte is
 by_sign : (reading : Reading) (at b : ℕ) (rest : List ℕ) (o : Option Kind) → sign_kind b ≡ o → first_token reading at (b ∷ rest) ≡ elim o [ Some k ↦ (k, 1) | None ↦ tested at (length (b ∷ rest)) (reading (b ∷ rest)) ]
 by_sign reading at b rest o e = ap (λ z. elim z as (λ _. Kind × ℕ) [ Some k ↦ (k, 1) | None ↦ tested at (length (b ∷ rest)) (reading (b ∷ rest)) ]) e
-
-pub sign_first : (reading : Reading) (bytes : List ℕ) (at : ℕ) (k : Kind) → at < length bytes → sign_kind (get_or bytes at 0) ≡ Some k → (k, 1) ≡ first_token reading at (drop at bytes)
-sign_first reading bytes at k h e = sym (ap (first_token reading at) (front bytes at h) ∙ by_sign reading at (get_or bytes at 0) (drop (suc at) bytes) (Some k) e)
-
-pub test_first : (reading : Reading) (bytes : List ℕ) (at : ℕ) → at < length bytes → sign_kind (get_or bytes at 0) ≡ None → tested at (length bytes - at) (reading (drop at bytes)) ≡ first_token reading at (drop at bytes)
-test_first reading bytes at h e =
-    let f = front bytes at h in
-    sym (ap (first_token reading at) f ∙ by_sign reading at (get_or bytes at 0) (drop (suc at) bytes) None e ∙ ap (λ l. tested at (length l) (reading l)) (sym f) ∙ ap (λ n. tested at n (reading (drop at bytes))) (length-drop at bytes))
 
 -- notations that read the same see the same first token
 pub same_first : (r r' : Reading) → SameReading r r' → (at : ℕ) (bytes : List ℕ) → first_token r at bytes ≡ first_token r' at bytes
@@ -56,11 +41,11 @@ next_token reading at (b ∷ bytes) k (suc n) e some within =
     ∙ ap (λ l. token k at ∷ l) (passed reading (at + 1) n bytes (omega arith) ∙ ap (λ i. tokens_from reading i 0 (drop n bytes)) (omega arith))
 
 -- one token more is listed
-pub listed_more : (reading : Reading) (bytes : List ℕ) (list : List Token) (len at used : ℕ) (k : Kind) → len < length list → (k, used) ≡ first_token reading at (drop at bytes) → 0 < used → at + used ≤ length bytes → take len list ++ tokens_from reading at 0 (drop at bytes) ≡ tokens reading bytes → take (len + 1) (set list len (token k at)) ++ tokens_from reading (at + used) 0 (drop (at + used) bytes) ≡ tokens reading bytes
-listed_more reading bytes list len at used k room e some within so_far =
+pub listed_more : (reading : Reading) (bytes : List ℕ) (list : List Token) (at used : ℕ) (k : Kind) → (k, used) ≡ first_token reading at (drop at bytes) → 0 < used → at + used ≤ length bytes → list ++ tokens_from reading at 0 (drop at bytes) ≡ tokens reading bytes → (list ++ (token k at ∷ [])) ++ tokens_from reading (at + used) 0 (drop (at + used) bytes) ≡ tokens reading bytes
+listed_more reading bytes list at used k e some within so_far =
     let rest = tokens_from reading (at + used) 0 (drop (at + used) bytes) in
     let on : tokens_from reading at 0 (drop at bytes) ≡ token k at ∷ rest = next_token reading at (drop at bytes) k used e some (omega (arith, length-drop at bytes)) ∙ ap (λ l. token k at ∷ tokens_from reading (at + used) 0 l) (drop-drop used at bytes) in
-    ap (λ l. l ++ rest) (take_more_set list len (token k at) room) ∙ append_assoc (take len list) (token k at ∷ []) rest ∙ ap (λ l. take len list ++ l) (sym on) ∙ so_far
+    append_assoc list (token k at ∷ []) rest ∙ ap (λ l. list ++ l) (sym on) ∙ so_far
 
 pub none_left : (reading : Reading) (bytes : List ℕ) (at : ℕ) → length bytes ≤ at → tokens_from reading at 0 (drop at bytes) ≡ []
 none_left reading bytes at h = ap (tokens_from reading at 0) (drop_all at bytes h)

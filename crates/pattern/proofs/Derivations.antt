@@ -1,18 +1,18 @@
 -- The scan from left to right accepts exactly what the grammar derives.
-use Rattle.std.proofs.Common.{◌≡◌, ℕ, zero, suc, ◌+◌, ◌-◌, ◌<◌, ◌≤◌, Bool, true, false, cond, eqb, ltb, List, [], ◌∷◌, ◌++◌, length, Some, None, Ok, Err, Option, Result, sym, refl, ap, ◌∙◌, subst, append-nil, arith, ltb-true, MatchResult}
+use Rattle.std.proofs.Common.{◌≡◌, ℕ, zero, suc, ◌+◌, ◌-◌, ◌<◌, ◌≤◌, Bool, true, false, cond, eqb, List, [], ◌∷◌, ◌++◌, length, Some, None, Ok, Err, Option, Result, sym, refl, ap, ◌∙◌, subst, append-nil, arith, ltb-true, MatchResult}
 use Rattle.alphabet.specs.declared.Cause.{Cause}
 use Rattle.pattern.specs.declared.fault.Fault.{Fault}
 use Rattle.pattern.specs.declared.kept.Pattern.{Pattern}
 use Rattle.pattern.specs.declared.token.Kind.{Kind}
 use Rattle.pattern.specs.declared.token.Token.{Token}
-use Rattle.pattern.specs.Expressions.{Expr, test, seq, either, star, plus, opt, tag, has_tag, Syntax}
+use Rattle.pattern.specs.Expressions.{Expr, test, seq, either, star, plus, opt, tag, Syntax}
 use Rattle.pattern.specs.Tokens.{Reading, sign_kind, token, tested, first_token, tokens_from, tokens, code_of, tag_of}
 use Rattle.pattern.specs.Scanning.{Before, nothing, so_far, join, choose, Bracket, whole, plain, tagged, Frame, frame, State, want, have, Step, go, stop, unit_step, close_step, close_tag_step, end_step, step, conclude, scan, start, scanned}
 use Rattle.pattern.specs.Descent.{is_end}
 use Rattle.pattern.specs.Patterns.{syntax, written}
 use Rattle.pattern.specs.Grammar.{Part, group, branch, unit, Seen, one_tag_more, Derives, a_test, a_group, a_tag, none_or_more, one_or_more, none_or_one, first_unit, next_unit, first_branch, next_branch, Derived, Derivable, DerivesOnly}
 use Rattle.pattern.proofs.Steps.{absurd_of}
-use Rattle.pattern.proofs.Agree.{is_below}
+use Rattle.std.proofs.lemmas.Bool.{lt-ltb, cond-true, cond-false}
 
 never : {X Y : Type 0} {x : X} {y : Y} → Err x ≡ Ok y → ⊥
 never h = let z : ◌≡◌ {A = ℕ} 0 1 = cc in omega arith
@@ -56,33 +56,27 @@ Scans end group d s ts e s' ts' = (k : Bracket) → (a : Before) × (b : Before)
 Scans end branch d s ts e s' ts' = (k : Bracket) (a : Before) → (b : Before) × (u : Expr) × (join b u ≡ e) × ((gs : List Frame) → length gs ≡ d → Same end (want (frame k a nothing) gs) s ts (have (frame k a b) u gs) s' ts')
 Scans end unit d s ts e s' ts' = (f : Frame) (gs : List Frame) → length gs ≡ d → Same end (want f gs) s ts (have f e gs) s' ts'
 
-if_below : (n m : ℕ) (x y : Step) → n < m → cond (ltb n m) x y ≡ x
-if_below n m x y h = ap (λ z. cond z x y) (is_below n m h)
-
-if_not : (b : Bool) (x y : Step) → b ≡ false → cond b x y ≡ y
-if_not b x y h = ap (λ z. cond z x y) h
-
 scans : (end : ℕ) {p : Part} {d : ℕ} {s s' : Seen} {ts ts' : List Token} {e : Expr} → Derives p d s ts e s' ts' → Scans end p d s ts e s' ts'
 scans end (a_test {s = s} {ts = ts} {code = code} {i = i} h) = λ f gs l.
     let st : State = have f (test (length s.codes + 1)) gs in
-    after (want f gs) s.codes s.tags end (token (Kind.Test (Ok code)) i) ts (go st) (if_below (length s.codes) 64 (go st) _ h)
+    after (want f gs) s.codes s.tags end (token (Kind.Test (Ok code)) i) ts (go st) (cond-true _ _ _ (lt-ltb _ _ h))
     ∙ ap (λ g. scan st (s.codes ++ (code ∷ [])) g end ts) (omega arith)
 scans end (a_group {s = s} {s' = s'} {ts = ts} {ts' = ts'} {i = i} {j = j} h r) = λ f gs l.
     let x = scans end r plain in
-    over (want f gs) _ s end Kind.Open i ts refl refl (if_below (length gs) 8 _ _ (omega arith))
+    over (want f gs) _ s end Kind.Open i ts refl refl (cond-true _ _ _ (lt-ltb (length gs) 8 (omega arith)))
     ∙ x.4 (f ∷ gs) (omega arith)
     ∙ over (have (frame plain x.0 x.1) x.2 (f ∷ gs)) _ s' end Kind.Close j ts' refl refl refl
     ∙ ap (λ u. scan (have f u gs) s'.codes s'.tags end ts') x.3
 scans end (a_tag {s = s} {s' = s'} {ts = ts} {ts' = ts'} {i = i} {j = j} h m r) = λ f gs l.
     let x = scans end r (tagged (s.tags + 1)) in
     let st : State = want (frame (tagged (s.tags + 1)) nothing nothing) (f ∷ gs) in
-    after (want f gs) s.codes s.tags end (token Kind.OpenTag i) ts (go st) (if_below (length gs) 8 _ _ (omega arith) ∙ if_below s.tags 8 (go st) _ m)
+    after (want f gs) s.codes s.tags end (token Kind.OpenTag i) ts (go st) (cond-true _ _ _ (lt-ltb (length gs) 8 (omega arith)) ∙ cond-true _ _ _ (lt-ltb _ _ m))
     ∙ ap (λ cs. scan st cs (s.tags + 1) end ts) (append-nil s.codes)
     ∙ x.4 (f ∷ gs) (omega arith)
     ∙ over (have (frame (tagged (s.tags + 1)) x.0 x.1) x.2 (f ∷ gs)) _ s' end Kind.CloseTag j ts' refl refl refl
     ∙ ap (λ u. scan (have f (tag (s.tags + 1) u) gs) s'.codes s'.tags end ts') x.3
-scans end (none_or_more {s' = s'} {ts' = ts'} {e = e} {i = i} h r) = λ f gs l. scans end r f gs l ∙ over (have f e gs) (have f (star e) gs) s' end Kind.Star i ts' refl refl (if_not (has_tag e) _ _ h)
-scans end (one_or_more {s' = s'} {ts' = ts'} {e = e} {i = i} h r) = λ f gs l. scans end r f gs l ∙ over (have f e gs) (have f (plus e) gs) s' end Kind.Plus i ts' refl refl (if_not (has_tag e) _ _ h)
+scans end (none_or_more {s' = s'} {ts' = ts'} {e = e} {i = i} h r) = λ f gs l. scans end r f gs l ∙ over (have f e gs) (have f (star e) gs) s' end Kind.Star i ts' refl refl (cond-false _ _ _ h)
+scans end (one_or_more {s' = s'} {ts' = ts'} {e = e} {i = i} h r) = λ f gs l. scans end r f gs l ∙ over (have f e gs) (have f (plus e) gs) s' end Kind.Plus i ts' refl refl (cond-false _ _ _ h)
 scans end (none_or_one {s' = s'} {ts' = ts'} {e = e} {i = i} r) = λ f gs l. scans end r f gs l ∙ over (have f e gs) (have f (opt e) gs) s' end Kind.Opt i ts' refl refl refl
 scans end (first_unit {e = e} r) = λ k a. (nothing, e, refl, λ gs l. scans end r (frame k a nothing) gs l)
 scans end (next_unit {f = f} r q) = λ k a.

@@ -1,16 +1,18 @@
 -- What is gathered of an expression, from what is gathered of its parts.
-use Rattle.std.proofs.Common.{◌≡◌, ℕ, ◌+◌, ◌^◌, ◌<◌, ◌≤◌, Bool, true, false, ◌&&◌, ◌||◌, eqb, List, get_or, sym, refl, ap, ◌∙◌, subst, arith, eqb-true}
+use Rattle.std.proofs.Common.{◌≡◌, ℕ, ◌+◌, ◌^◌, ◌<◌, ◌≤◌, true, false, ◌&&◌, ◌||◌, eqb, List, get_or, sym, refl, ap, ◌∙◌, subst, arith, eqb-true}
+use Rattle.std.proofs.lemmas.Bool.{eq-eqb}
+use Rattle.std.proofs.Math.Bool.{or_assoc, or-false}
 use lib.Bits.{bit_or}
-use borrow.Author.Tests.{eq-true}
 use Rattle.pattern.specs.declared.node.Node.{Node}
 use Rattle.pattern.specs.declared.node.Node.TheVariants.{Test, Seq, Or, Star, Plus, Opt, Tag}
 use Rattle.pattern.specs.declared.positions.Edges.{Edges}
 use Rattle.pattern.specs.Expressions.{Expr, test, seq, either, star, plus, opt, tag}
-use Rattle.pattern.specs.Positions.{bit, has_empty, begins, ends, follows, size, numbered}
+use Rattle.automaton.specs.Bit.{bit}
+use Rattle.pattern.specs.Positions.{has_empty, begins, ends, follows, size, numbered}
 use Rattle.pattern.specs.Trees.{node, Stands, a_test, a_seq, an_or, a_star, a_plus, an_opt, a_tag}
 use Rattle.pattern.specs.Gathering.{Numerable, Linked, Joined, Gathered}
-use Rattle.pattern.proofs.BitSets.{bit-or, bit_one, same_test}
-use Rattle.pattern.proofs.Sets.{and_true}
+use Rattle.automaton.proofs.BitTests.{same_test}
+use Rattle.pattern.proofs.BitSets.{bit_union, bit_one}
 
 -- the expression of a node, by what the node is
 abbrev pub View : List Node → ℕ → Node → Expr → Type 0
@@ -31,25 +33,13 @@ view ns k n (a_plus {e = e} x l s) h = subst (λ m. View ns k m (plus e)) (sym x
 view ns k n (an_opt {e = e} x l s) h = subst (λ m. View ns k m (opt e)) (sym x ∙ h) (e, refl, l, s)
 view ns k n (a_tag {n = t} {e = e} x l s) h = subst (λ m. View ns k m (tag t e)) (sym x ∙ h) (e, refl, l, s)
 
--- what is asked of the parts
-module _ (ns : List Node) (k : ℕ) (r : Numerable ns k) where
-  pub test_number : (n : ℕ) → node ns k ≡ Test n → (1 ≤ n) × (n ≤ 64)
-  test_number n h =
-      let e = view ns k (Test n) r.stands h in
-      let is : n ≡ r.low = eqb-true n r.low (subst (λ x. numbered x r.low ≡ true) e r.in_order) in
-      let one : size r.expr ≡ 1 = ap size e in
-      (omega (arith, r.from_one), omega (arith, r.to_64))
-
-  -- one part, of the whole's size and numbers
-  pub part : (a : ℕ) (f : Expr) → a < k → Stands ns a f → size f ≡ size r.expr → numbered f r.low ≡ true → Numerable ns a
-  part a f l s z o = record { in_table = omega (arith, r.in_table); expr = f; stands = s; low = r.low; from_one = r.from_one; to_64 = omega (arith, r.to_64); in_order = o }
-
-  pub two_parts : (a b : ℕ) (f g : Expr) → a < k → b < k → Stands ns a f → Stands ns b g → size f + size g ≡ size r.expr → numbered f r.low && numbered g (r.low + size f) ≡ true → Numerable ns a × Numerable ns b
-  two_parts a b f g l m s t z o =
-      let p = and_true (numbered f r.low) (numbered g (r.low + size f)) o in (
-        record { in_table = omega (arith, r.in_table); expr = f; stands = s; low = r.low; from_one = r.from_one; to_64 = omega (arith, r.to_64); in_order = p.0 },
-        record { in_table = omega (arith, r.in_table); expr = g; stands = t; low = r.low + size f; from_one = omega (arith, r.from_one); to_64 = omega (arith, r.to_64); in_order = p.1 },
-      )
+-- the number of a test that has one from 1 to 64
+pub test_number : (ns : List Node) (k : ℕ) (r : Numerable ns k) (n : ℕ) → node ns k ≡ Test n → (1 ≤ n) × (n ≤ 64)
+test_number ns k r n h =
+    let e = view ns k (Test n) r.stands h in
+    let is : n ≡ r.low = eqb-true n r.low (subst (λ x. numbered x r.low ≡ true) e r.in_order) in
+    let one : size r.expr ≡ 1 = ap size e in
+    (omega (arith, r.from_one), omega (arith, r.to_64))
 
 -- what is gathered, by an equal expression
 pub same_gathered : {e f : Expr} {l : Edges} {f₀ f₁ : List ℕ} → e ≡ f → Gathered f l f₀ f₁ → Gathered e l f₀ f₁
@@ -58,19 +48,11 @@ same_gathered {l = l} {f₀ = f₀} {f₁ = f₁} h a = subst (λ x. Gathered x 
 pub same_edges : {e : Expr} {l m : Edges} {f₀ f₁ : List ℕ} → l ≡ m → Gathered e m f₀ f₁ → Gathered e l f₀ f₁
 same_edges {e = e} {f₀ = f₀} {f₁ = f₁} h a = subst (λ x. Gathered e x f₀ f₁) (sym h) a
 
-or_assoc : (a b c : Bool) → (a || b) || c ≡ a || (b || c)
-or_assoc true b c = refl
-or_assoc false b c = refl
-
-or_none : (a : Bool) → a ≡ a || false
-or_none true = refl
-or_none false = refl
-
 module _ {before : List ℕ} where
   pub gathered_test : (n j x : ℕ) → n ≡ j + 1 → x ≡ 2 ^ j → Gathered (test n) (record { nullable = false; first = x; last = x }) before before
   gathered_test n j x is e =
-      let set : (k : ℕ) → bit x k ≡ eqb n (k + 1) = λ k. ap (λ y. bit y k) e ∙ bit_one j k ∙ same_test _ _ (λ h. sym (eq-true n (k + 1) (omega (arith, eqb-true j k h)))) (λ h. sym (eq-true j k (omega (arith, eqb-true n (k + 1) h)))) in
-      record { null = refl; first = set; last = set; kept = refl; follow = λ p q h. or_none _ }
+      let set : (k : ℕ) → bit x k ≡ eqb n (k + 1) = λ k. ap (λ y. bit y k) e ∙ bit_one j k ∙ same_test _ _ (λ h. eq-eqb n (k + 1) (omega (arith, eqb-true j k h))) (λ h. eq-eqb j k (omega (arith, eqb-true n (k + 1) h))) in
+      record { null = refl; first = set; last = set; kept = refl; follow = λ p q h. sym (or-false _) }
 
 -- what followed, what follows in a part, and what follows in another
 module _ {e f : Expr} {l r : Edges} {f₀ f₁ f₂ : List ℕ} (a : Gathered e l f₀ f₁) (b : Gathered f r f₁ f₂) where
@@ -91,8 +73,8 @@ module _ {e f : Expr} {l r : Edges} {f₀ f₁ f₂ : List ℕ} (a : Gathered e 
   gathered_either =
       record {
         null = ap (λ x. x || r.nullable) a.null ∙ ap (λ x. has_empty e || x) b.null;
-        first = λ i. bit-or l.first r.first i ∙ ap (λ x. x || bit r.first i) (a.first i) ∙ ap (λ x. begins e (i + 1) || x) (b.first i);
-        last = λ i. bit-or l.last r.last i ∙ ap (λ x. x || bit r.last i) (a.last i) ∙ ap (λ x. ends e (i + 1) || x) (b.last i);
+        first = λ i. bit_union l.first r.first i ∙ ap (λ x. x || bit r.first i) (a.first i) ∙ ap (λ x. begins e (i + 1) || x) (b.first i);
+        last = λ i. bit_union l.last r.last i ∙ ap (λ x. x || bit r.last i) (a.last i) ∙ ap (λ x. ends e (i + 1) || x) (b.last i);
         kept = b.kept ∙ a.kept;
         follow = both;
       }

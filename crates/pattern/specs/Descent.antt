@@ -1,6 +1,6 @@
 -- What each function of the reader does with the tokens from a place on. (That these rules come to what the scan from
 -- left to right comes to is proved; a reader of the promises needs only the scan and the grammar.)
-use Rattle.std.specs.Prelude.{◌≡◌, ℕ, zero, suc, ◌+◌, ◌<◌, ◌≤◌, Bool, true, false, List, [], ◌∷◌, ◌++◌, length, Ok, Err}
+use Rattle.std.specs.Prelude.{◌≡◌, ◌≢◌, ℕ, zero, suc, ◌+◌, ◌<◌, ◌≤◌, Bool, true, false, List, [], ◌∷◌, ◌++◌, length, Ok, Err}
 use Rattle.pattern.specs.declared.fault.Fault.{Fault}
 use Rattle.pattern.specs.declared.fault.Fault.TheVariants.{BadTest, MissingUnit, LooseBracket, TooDeep, TooManyTests, TooManyTags, RepeatedTag}
 use Rattle.pattern.specs.declared.fault.Misread.{Misread}
@@ -53,90 +53,34 @@ tags s i = tags_before s.list i
 
 -- a unit begins here
 abbrev pub is_unit : Kind → Bool
-is_unit Or = false
-is_unit Star = false
-is_unit Plus = false
-is_unit Opt = false
-is_unit Open = true
-is_unit Close = false
-is_unit OpenTag = true
-is_unit CloseTag = false
 is_unit (Test r) = true
-is_unit End = false
-
-abbrev pub is_or : Kind → Bool
-is_or Or = true
-is_or Star = false
-is_or Plus = false
-is_or Opt = false
-is_or Open = false
-is_or Close = false
-is_or OpenTag = false
-is_or CloseTag = false
-is_or (Test r) = false
-is_or End = false
-
-abbrev pub is_close : Kind → Bool
-is_close Or = false
-is_close Star = false
-is_close Plus = false
-is_close Opt = false
-is_close Open = false
-is_close Close = true
-is_close OpenTag = false
-is_close CloseTag = false
-is_close (Test r) = false
-is_close End = false
-
-abbrev pub is_close_tag : Kind → Bool
-is_close_tag Or = false
-is_close_tag Star = false
-is_close_tag Plus = false
-is_close_tag Opt = false
-is_close_tag Open = false
-is_close_tag Close = false
-is_close_tag OpenTag = false
-is_close_tag CloseTag = true
-is_close_tag (Test r) = false
-is_close_tag End = false
+is_unit Open = true
+is_unit OpenTag = true
+is_unit _ = false
 
 abbrev pub is_end : Kind → Bool
-is_end Or = false
-is_end Star = false
-is_end Plus = false
-is_end Opt = false
-is_end Open = false
-is_end Close = false
-is_end OpenTag = false
-is_end CloseTag = false
-is_end (Test r) = false
 is_end End = true
+is_end _ = false
 
 -- `*`, `+` or `?`
 abbrev pub is_repeat : Kind → Bool
-is_repeat Or = false
 is_repeat Star = true
 is_repeat Plus = true
 is_repeat Opt = true
-is_repeat Open = false
-is_repeat Close = false
-is_repeat OpenTag = false
-is_repeat CloseTag = false
-is_repeat (Test r) = false
-is_repeat End = false
+is_repeat _ = false
 
 -- `(` or `{`
 abbrev pub is_opening : Kind → Bool
-is_opening Or = false
-is_opening Star = false
-is_opening Plus = false
-is_opening Opt = false
 is_opening Open = true
-is_opening Close = false
 is_opening OpenTag = true
-is_opening CloseTag = false
-is_opening (Test r) = false
-is_opening End = false
+is_opening _ = false
+
+-- a sign that opens no tag
+abbrev pub is_plain : Kind → Bool
+is_plain (Test r) = false
+is_plain OpenTag = false
+is_plain End = false
+is_plain _ = true
 
 -- an expression and the place after it, or a fault
 pub data Out : Type 0 where
@@ -149,46 +93,46 @@ pub data Want : Type 0 where
   branches items : ℕ → Expr → Want
   repeats : Expr → Want
 
--- Reads s w i o: of the source s, the reading of w that begins at the place i comes out as o
-pub data Reads (s : Source) : Want → ℕ → Out → Type 0 where
+-- Parses s w i o: of the source s, the reading of w that begins at the place i comes out as o
+pub data Parses (s : Source) : Want → ℕ → Out → Type 0 where
   -- a group: one or more branches with `|` between them
-  group_then : {d i : ℕ} {e : Expr} {j : ℕ} {o : Out} → Reads s (branch d) i (good e j) → Reads s (branches d e) j o → Reads s (group d) i o
-  group_bad : {d i : ℕ} {f : Fault} → Reads s (branch d) i (bad f) → Reads s (group d) i (bad f)
-  branches_end : {d : ℕ} {e : Expr} {i : ℕ} → is_or (kind_at s i) ≡ false → Reads s (branches d e) i (good e i)
-  branches_or : {d : ℕ} {e f : Expr} {i j : ℕ} {o : Out} → is_or (kind_at s i) ≡ true → Reads s (branch d) (i + 1) (good f j) → Reads s (branches d (either e f)) j o → Reads s (branches d e) i o
-  branches_bad : {d : ℕ} {e : Expr} {i : ℕ} {f : Fault} → is_or (kind_at s i) ≡ true → Reads s (branch d) (i + 1) (bad f) → Reads s (branches d e) i (bad f)
+  group_then : {d i : ℕ} {e : Expr} {j : ℕ} {o : Out} → Parses s (branch d) i (good e j) → Parses s (branches d e) j o → Parses s (group d) i o
+  group_bad : {d i : ℕ} {f : Fault} → Parses s (branch d) i (bad f) → Parses s (group d) i (bad f)
+  branches_end : {d : ℕ} {e : Expr} {i : ℕ} → kind_at s i ≢ Or → Parses s (branches d e) i (good e i)
+  branches_or : {d : ℕ} {e f : Expr} {i j : ℕ} {o : Out} → kind_at s i ≡ Or → Parses s (branch d) (i + 1) (good f j) → Parses s (branches d (either e f)) j o → Parses s (branches d e) i o
+  branches_bad : {d : ℕ} {e : Expr} {i : ℕ} {f : Fault} → kind_at s i ≡ Or → Parses s (branch d) (i + 1) (bad f) → Parses s (branches d e) i (bad f)
   -- a branch: one or more items
-  branch_then : {d i : ℕ} {e : Expr} {j : ℕ} {o : Out} → Reads s (item d) i (good e j) → Reads s (items d e) j o → Reads s (branch d) i o
-  branch_bad : {d i : ℕ} {f : Fault} → Reads s (item d) i (bad f) → Reads s (branch d) i (bad f)
-  items_end : {d : ℕ} {e : Expr} {i : ℕ} → is_unit (kind_at s i) ≡ false → Reads s (items d e) i (good e i)
-  items_more : {d : ℕ} {e f : Expr} {i j : ℕ} {o : Out} → is_unit (kind_at s i) ≡ true → Reads s (item d) i (good f j) → Reads s (items d (seq e f)) j o → Reads s (items d e) i o
-  items_bad : {d : ℕ} {e : Expr} {i : ℕ} {f : Fault} → is_unit (kind_at s i) ≡ true → Reads s (item d) i (bad f) → Reads s (items d e) i (bad f)
+  branch_then : {d i : ℕ} {e : Expr} {j : ℕ} {o : Out} → Parses s (item d) i (good e j) → Parses s (items d e) j o → Parses s (branch d) i o
+  branch_bad : {d i : ℕ} {f : Fault} → Parses s (item d) i (bad f) → Parses s (branch d) i (bad f)
+  items_end : {d : ℕ} {e : Expr} {i : ℕ} → is_unit (kind_at s i) ≡ false → Parses s (items d e) i (good e i)
+  items_more : {d : ℕ} {e f : Expr} {i j : ℕ} {o : Out} → is_unit (kind_at s i) ≡ true → Parses s (item d) i (good f j) → Parses s (items d (seq e f)) j o → Parses s (items d e) i o
+  items_bad : {d : ℕ} {e : Expr} {i : ℕ} {f : Fault} → is_unit (kind_at s i) ≡ true → Parses s (item d) i (bad f) → Parses s (items d e) i (bad f)
   -- an item: a unit and what repeats it
-  item_then : {d i : ℕ} {e : Expr} {j : ℕ} {o : Out} → Reads s (unit d) i (good e j) → Reads s (repeats e) j o → Reads s (item d) i o
-  item_bad : {d i : ℕ} {f : Fault} → Reads s (unit d) i (bad f) → Reads s (item d) i (bad f)
+  item_then : {d i : ℕ} {e : Expr} {j : ℕ} {o : Out} → Parses s (unit d) i (good e j) → Parses s (repeats e) j o → Parses s (item d) i o
+  item_bad : {d i : ℕ} {f : Fault} → Parses s (unit d) i (bad f) → Parses s (item d) i (bad f)
   -- a unit: a test, a group or a tag
-  unit_test : {d i c : ℕ} → kind_at s i ≡ Test (Ok c) → length (codes s i) < 64 → Reads s (unit d) i (good (test (length (codes s i) + 1)) (i + 1))
-  unit_tests : {d i c : ℕ} → kind_at s i ≡ Test (Ok c) → 64 ≤ length (codes s i) → Reads s (unit d) i (bad (TooManyTests (offset_at s i)))
-  unit_misread : {d i : ℕ} {m : Misread} → kind_at s i ≡ Test (Err m) → Reads s (unit d) i (bad (BadTest m))
-  unit_deep : {d i : ℕ} → is_opening (kind_at s i) ≡ true → 8 ≤ d → Reads s (unit d) i (bad (TooDeep (offset_at s i)))
-  unit_group : {d i : ℕ} {e : Expr} {j : ℕ} → kind_at s i ≡ Open → d < 8 → Reads s (group (d + 1)) (i + 1) (good e j) → is_close (kind_at s j) ≡ true → Reads s (unit d) i (good e (j + 1))
-  unit_group_bad : {d i : ℕ} {f : Fault} → kind_at s i ≡ Open → d < 8 → Reads s (group (d + 1)) (i + 1) (bad f) → Reads s (unit d) i (bad f)
-  unit_group_loose : {d i : ℕ} {e : Expr} {j : ℕ} → kind_at s i ≡ Open → d < 8 → Reads s (group (d + 1)) (i + 1) (good e j) → is_close (kind_at s j) ≡ false → Reads s (unit d) i (bad (LooseBracket (offset_at s j)))
-  unit_tags : {d i : ℕ} → kind_at s i ≡ OpenTag → d < 8 → 8 ≤ tags s i → Reads s (unit d) i (bad (TooManyTags (offset_at s i)))
-  unit_tag : {d i : ℕ} {e : Expr} {j : ℕ} → kind_at s i ≡ OpenTag → d < 8 → tags s i < 8 → Reads s (group (d + 1)) (i + 1) (good e j) → is_close_tag (kind_at s j) ≡ true → Reads s (unit d) i (good (tag (tags s i + 1) e) (j + 1))
-  unit_tag_bad : {d i : ℕ} {f : Fault} → kind_at s i ≡ OpenTag → d < 8 → tags s i < 8 → Reads s (group (d + 1)) (i + 1) (bad f) → Reads s (unit d) i (bad f)
-  unit_tag_loose : {d i : ℕ} {e : Expr} {j : ℕ} → kind_at s i ≡ OpenTag → d < 8 → tags s i < 8 → Reads s (group (d + 1)) (i + 1) (good e j) → is_close_tag (kind_at s j) ≡ false → Reads s (unit d) i (bad (LooseBracket (offset_at s j)))
-  unit_none : {d i : ℕ} → is_unit (kind_at s i) ≡ false → Reads s (unit d) i (bad (MissingUnit (offset_at s i)))
+  unit_test : {d i c : ℕ} → kind_at s i ≡ Test (Ok c) → length (codes s i) < 64 → Parses s (unit d) i (good (test (length (codes s i) + 1)) (i + 1))
+  unit_tests : {d i c : ℕ} → kind_at s i ≡ Test (Ok c) → 64 ≤ length (codes s i) → Parses s (unit d) i (bad (TooManyTests (offset_at s i)))
+  unit_misread : {d i : ℕ} {m : Misread} → kind_at s i ≡ Test (Err m) → Parses s (unit d) i (bad (BadTest m))
+  unit_deep : {d i : ℕ} → is_opening (kind_at s i) ≡ true → 8 ≤ d → Parses s (unit d) i (bad (TooDeep (offset_at s i)))
+  unit_group : {d i : ℕ} {e : Expr} {j : ℕ} → kind_at s i ≡ Open → d < 8 → Parses s (group (d + 1)) (i + 1) (good e j) → kind_at s j ≡ Close → Parses s (unit d) i (good e (j + 1))
+  unit_group_bad : {d i : ℕ} {f : Fault} → kind_at s i ≡ Open → d < 8 → Parses s (group (d + 1)) (i + 1) (bad f) → Parses s (unit d) i (bad f)
+  unit_group_loose : {d i : ℕ} {e : Expr} {j : ℕ} → kind_at s i ≡ Open → d < 8 → Parses s (group (d + 1)) (i + 1) (good e j) → kind_at s j ≢ Close → Parses s (unit d) i (bad (LooseBracket (offset_at s j)))
+  unit_tags : {d i : ℕ} → kind_at s i ≡ OpenTag → d < 8 → 8 ≤ tags s i → Parses s (unit d) i (bad (TooManyTags (offset_at s i)))
+  unit_tag : {d i : ℕ} {e : Expr} {j : ℕ} → kind_at s i ≡ OpenTag → d < 8 → tags s i < 8 → Parses s (group (d + 1)) (i + 1) (good e j) → kind_at s j ≡ CloseTag → Parses s (unit d) i (good (tag (tags s i + 1) e) (j + 1))
+  unit_tag_bad : {d i : ℕ} {f : Fault} → kind_at s i ≡ OpenTag → d < 8 → tags s i < 8 → Parses s (group (d + 1)) (i + 1) (bad f) → Parses s (unit d) i (bad f)
+  unit_tag_loose : {d i : ℕ} {e : Expr} {j : ℕ} → kind_at s i ≡ OpenTag → d < 8 → tags s i < 8 → Parses s (group (d + 1)) (i + 1) (good e j) → kind_at s j ≢ CloseTag → Parses s (unit d) i (bad (LooseBracket (offset_at s j)))
+  unit_none : {d i : ℕ} → is_unit (kind_at s i) ≡ false → Parses s (unit d) i (bad (MissingUnit (offset_at s i)))
   -- none or more of `*`, `+` and `?`
-  repeats_end : {e : Expr} {i : ℕ} → is_repeat (kind_at s i) ≡ false → Reads s (repeats e) i (good e i)
-  repeats_star : {e : Expr} {i : ℕ} {o : Out} → kind_at s i ≡ Star → has_tag e ≡ false → Reads s (repeats (star e)) (i + 1) o → Reads s (repeats e) i o
-  repeats_star_tag : {e : Expr} {i : ℕ} → kind_at s i ≡ Star → has_tag e ≡ true → Reads s (repeats e) i (bad (RepeatedTag (offset_at s i)))
-  repeats_plus : {e : Expr} {i : ℕ} {o : Out} → kind_at s i ≡ Plus → has_tag e ≡ false → Reads s (repeats (plus e)) (i + 1) o → Reads s (repeats e) i o
-  repeats_plus_tag : {e : Expr} {i : ℕ} → kind_at s i ≡ Plus → has_tag e ≡ true → Reads s (repeats e) i (bad (RepeatedTag (offset_at s i)))
-  repeats_opt : {e : Expr} {i : ℕ} {o : Out} → kind_at s i ≡ Opt → Reads s (repeats (opt e)) (i + 1) o → Reads s (repeats e) i o
+  repeats_end : {e : Expr} {i : ℕ} → is_repeat (kind_at s i) ≡ false → Parses s (repeats e) i (good e i)
+  repeats_star : {e : Expr} {i : ℕ} {o : Out} → kind_at s i ≡ Star → has_tag e ≡ false → Parses s (repeats (star e)) (i + 1) o → Parses s (repeats e) i o
+  repeats_star_tag : {e : Expr} {i : ℕ} → kind_at s i ≡ Star → has_tag e ≡ true → Parses s (repeats e) i (bad (RepeatedTag (offset_at s i)))
+  repeats_plus : {e : Expr} {i : ℕ} {o : Out} → kind_at s i ≡ Plus → has_tag e ≡ false → Parses s (repeats (plus e)) (i + 1) o → Parses s (repeats e) i o
+  repeats_plus_tag : {e : Expr} {i : ℕ} → kind_at s i ≡ Plus → has_tag e ≡ true → Parses s (repeats e) i (bad (RepeatedTag (offset_at s i)))
+  repeats_opt : {e : Expr} {i : ℕ} {o : Out} → kind_at s i ≡ Opt → Parses s (repeats (opt e)) (i + 1) o → Parses s (repeats e) i o
 
 -- a whole pattern is a group with nothing behind it
 pub data Whole (s : Source) : Out → Type 0 where
-  ended : {e : Expr} {j : ℕ} → Reads s (group 0) 0 (good e j) → is_end (kind_at s j) ≡ true → Whole s (good e j)
-  fault : {f : Fault} → Reads s (group 0) 0 (bad f) → Whole s (bad f)
-  loose : {e : Expr} {j : ℕ} → Reads s (group 0) 0 (good e j) → is_end (kind_at s j) ≡ false → Whole s (bad (LooseBracket (offset_at s j)))
+  ended : {e : Expr} {j : ℕ} → Parses s (group 0) 0 (good e j) → kind_at s j ≡ End → Whole s (good e j)
+  fault : {f : Fault} → Parses s (group 0) 0 (bad f) → Whole s (bad f)
+  loose : {e : Expr} {j : ℕ} → Parses s (group 0) 0 (good e j) → kind_at s j ≢ End → Whole s (bad (LooseBracket (offset_at s j)))

@@ -1,6 +1,7 @@
--- The faults of a pattern, by number, offset and cause.
-use Rattle.std.specs.Prelude.{ℕ, Some, None, Option}
+-- The faults of a pattern, by number, offset and cause, and in words.
+use Rattle.std.specs.Prelude.{ℕ, List, Some, None, codes, Option}
 use Rattle.alphabet.specs.declared.Cause.{Cause}
+use Rattle.alphabet.specs.Causes.{cause_words}
 use Rattle.pattern.specs.declared.fault.Fault.{Fault}
 use Rattle.pattern.specs.declared.fault.Fault.TheVariants.{TooLong, BadTest, MissingUnit, LooseBracket, TooDeep, TooManyTests, TooManyTags, RepeatedTag}
 
@@ -14,6 +15,16 @@ fault_number (TooManyTests at) = 9
 fault_number (TooManyTags at) = 10
 fault_number (RepeatedTag at) = 11
 
+abbrev pub fault_words : Fault → List ℕ
+fault_words TooLong = codes "longer than 120 bytes"
+fault_words (BadTest m) = cause_words m.cause
+fault_words (MissingUnit at) = codes "a test or a group is missing here"
+fault_words (LooseBracket at) = codes "a bracket closes nothing, or one is still open at the end"
+fault_words (TooDeep at) = codes "more than 8 groups are open"
+fault_words (TooManyTests at) = codes "more than 64 tests"
+fault_words (TooManyTags at) = codes "more than 8 tags"
+fault_words (RepeatedTag at) = codes "a * or + repeats a tag"
+
 abbrev pub fault_offset : Fault → Option ℕ
 fault_offset TooLong = None
 fault_offset (BadTest m) = Some m.offset
@@ -25,11 +36,5 @@ fault_offset (TooManyTags at) = Some at
 fault_offset (RepeatedTag at) = Some at
 
 abbrev pub fault_cause : Fault → Option Cause
-fault_cause TooLong = None
 fault_cause (BadTest m) = Some m.cause
-fault_cause (MissingUnit at) = None
-fault_cause (LooseBracket at) = None
-fault_cause (TooDeep at) = None
-fault_cause (TooManyTests at) = None
-fault_cause (TooManyTags at) = None
-fault_cause (RepeatedTag at) = None
+fault_cause _ = None

@@ -4,7 +4,8 @@ use Rattle.automaton.specs.declared.machine.Automaton.{Automaton}
 use Rattle.pattern.specs.declared.node.Node.{Node}
 use Rattle.pattern.specs.declared.positions.Edges.{Edges}
 use Rattle.pattern.specs.Expressions.{Expr}
-use Rattle.pattern.specs.Positions.{bit, has_empty, begins, ends, follows, size, numbered}
+use Rattle.automaton.specs.Bit.{bit}
+use Rattle.pattern.specs.Positions.{has_empty, begins, ends, follows, size, numbered}
 use Rattle.pattern.specs.Trees.{Stands}
 
 -- the node k stands for an expression whose tests have numbers from 1 to 64

@@ -1,5 +1,5 @@
 -- Which tests may begin a word of an expression, end one, or follow one another, and whether the empty word belongs.
-use Rattle.std.specs.Prelude.{ℕ, ◌+◌, ◌/◌, ◌%◌, ◌^◌, Bool, true, false, ◌&&◌, ◌||◌, ◌==◌}
+use Rattle.std.specs.Prelude.{ℕ, ◌+◌, Bool, true, false, ◌&&◌, ◌||◌, ◌==◌}
 use Rattle.pattern.specs.Expressions.{Expr, test, seq, either, star, plus, opt, tag}
 
 -- the empty word belongs
@@ -61,7 +61,3 @@ numbered (star e) low = numbered e low
 numbered (plus e) low = numbered e low
 numbered (opt e) low = numbered e low
 numbered (tag n e) low = numbered e low
-
--- whether the position k is in the set x
-abbrev pub bit : ℕ → ℕ → Bool
-bit x k = (x / 2 ^ k) % 2 == 1

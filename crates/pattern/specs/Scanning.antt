@@ -50,13 +50,7 @@ unit_step f gs i t g OpenTag =
     cond (nat_lt (length gs) 8)
     (cond (nat_lt g 8) (go (want (frame (tagged (g + 1)) nothing nothing) (f ∷ gs))) (stop (Err (TooManyTags i))))
     (stop (Err (TooDeep i)))
-unit_step f gs i t g Or = stop (Err (MissingUnit i))
-unit_step f gs i t g Star = stop (Err (MissingUnit i))
-unit_step f gs i t g Plus = stop (Err (MissingUnit i))
-unit_step f gs i t g Opt = stop (Err (MissingUnit i))
-unit_step f gs i t g Close = stop (Err (MissingUnit i))
-unit_step f gs i t g CloseTag = stop (Err (MissingUnit i))
-unit_step f gs i t g End = stop (Err (MissingUnit i))
+unit_step f gs i t g _ = stop (Err (MissingUnit i))
 
 -- `)` after the unit e: it closes the innermost open group if that is of its kind
 abbrev pub close_step : Frame → Expr → List Frame → ℕ → Step

@@ -51,27 +51,10 @@ tokens reading bytes = tokens_from reading 0 0 bytes
 
 -- the number of the test that a token is
 abbrev pub code_of : Kind → List ℕ
-code_of Or = []
-code_of Star = []
-code_of Plus = []
-code_of Opt = []
-code_of Open = []
-code_of Close = []
-code_of OpenTag = []
-code_of CloseTag = []
 code_of (Test (Ok code)) = code ∷ []
-code_of (Test (Err m)) = []
-code_of End = []
+code_of _ = []
 
 -- how many tags a token opens
 abbrev pub tag_of : Kind → ℕ
-tag_of Or = 0
-tag_of Star = 0
-tag_of Plus = 0
-tag_of Opt = 0
-tag_of Open = 0
-tag_of Close = 0
 tag_of OpenTag = 1
-tag_of CloseTag = 0
-tag_of (Test r) = 0
-tag_of End = 0
+tag_of _ = 0

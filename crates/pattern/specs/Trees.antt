@@ -7,19 +7,20 @@ use Rattle.pattern.specs.Expressions.{Expr, test, seq, either, star, plus, opt, 
 abbrev pub node : List Node → ℕ → Node
 node ns k = slice_index_or ns k (Test 0)
 
+-- the expression of a node, from those of its children
+abbrev pub from_children : (ℕ → Expr) → Node → Expr
+from_children child (Test p) = test p
+from_children child (Seq a b) = seq (child a) (child b)
+from_children child (Or a b) = either (child a) (child b)
+from_children child (Star a) = star (child a)
+from_children child (Plus a) = plus (child a)
+from_children child (Opt a) = opt (child a)
+from_children child (Tag t a) = tag t (child a)
+
 -- the expression for which the node k of a table stands, children below parents; n is above every number on the way
 abbrev pub tree : ℕ → List Node → ℕ → Expr
 tree zero ns k = test 0
-tree (suc n) ns k =
-    elim (node ns k) [
-      | Test p ↦ test p
-      | Seq a b ↦ seq (tree n ns a) (tree n ns b)
-      | Or a b ↦ either (tree n ns a) (tree n ns b)
-      | Star a ↦ star (tree n ns a)
-      | Plus a ↦ plus (tree n ns a)
-      | Opt a ↦ opt (tree n ns a)
-      | Tag t a ↦ tag t (tree n ns a)
-    ]
+tree (suc n) ns k = from_children (λ j. tree n ns j) (node ns k)
 
 -- the node k of a table stands for an expression, by nodes of smaller numbers
 pub data Stands (ns : List Node) : ℕ → Expr → Type 0 where

@@ -1,14 +1,16 @@
 // Cuts a pattern's bytes into tokens.
-ghost use Rattle.std.specs.Prelude.{◌≡◌, ◌+◌, ◌<◌, ◌≤◌, length, take, drop};
+ghost use Rattle.std.specs.Prelude.{◌≡◌, ◌+◌, ◌<◌, ◌≤◌, length, drop};
 ghost use Rattle.pattern.specs.Tokens.{sign_kind, first_token, tokens, SameReading};
 
 use crate::fault::Misread;
 use crate::token::{Kind, Token};
 use alphabet::{Alphabet, Notation};
+use arrayvec::ArrayVec;
 
-const MOST_TOKENS: usize = 120;
+// A pattern has at most so many bytes, and no more tokens than bytes.
+pub(crate) const MOST_BYTES: usize = 120;
 
-// The sign that a byte is.
+// The sign that a byte is. Not a `TryFrom`: a byte that is no sign is no error, and begins a test.
 fn sign(byte: u8) -> Option<Kind>
     ensures { result ≡ sign_kind byte }
 {
@@ -46,31 +48,21 @@ fn first_token<N: Notation>(notation: &mut N, bytes: &[u8], at: usize) -> (Kind,
     }
 }
 
-#[derive(Drop)]
-pub struct Tokens {
-    pub(crate) list: [Token; MOST_TOKENS],
-    pub(crate) len: usize,
-}
-
 // All tokens of a pattern that is not too long.
-pub(crate) fn cut<N: Notation>(notation: &mut N, bytes: &[u8]) -> Tokens
+pub(crate) fn cut<N: Notation>(notation: &mut N, bytes: &[u8]) -> ArrayVec<Token, MOST_BYTES>
     requires { length bytes.now ≤ 120 }
-    ensures value { take result.len result.list ≡ tokens (N.Notation.reading notation.old) bytes.now }
-    ensures few { result.len ≤ 120 }
+    ensures value { result.items ≡ tokens (N.Notation.reading notation.old) bytes.now }
+    ensures few { length result.items ≤ 120 }
     ensures keeps_meaning { N.Alphabet.meaning notation.new ≡ N.Alphabet.meaning notation.old }
     ensures keeps_reading { SameReading (N.Notation.reading notation.new) (N.Notation.reading notation.old) }
 {
-    let mut list = [Token {
-        kind: Kind::End,
-        offset: 0,
-    }; MOST_TOKENS];
-    let mut len = 0;
+    let mut list = ArrayVec::new();
     let mut at = 0;
+    // Not a `for`: the notation says how many bytes each token takes, and a token keeps its offset.
     while at < bytes.len() {
         let (kind, used) = first_token(notation, bytes, at);
-        list[len] = Token { kind, offset: at };
-        len += 1;
+        list.push(Token { kind, offset: at });
         at += used;
     }
-    Tokens { list, len }
+    list
 }

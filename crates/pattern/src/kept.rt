@@ -1,17 +1,19 @@
-// A pattern as it is kept: its nodes, its tests by the numbers under which the alphabet keeps them, and its position
-// automaton. The test p has the position p - 1.
 ghost use Rattle.std.specs.Prelude.{◌≡◌, ℕ, ◌+◌, ◌<◌, ◌≤◌, true, slice_index};
-ghost use Rattle.pattern.specs.Positions.{bit, has_empty, begins, ends, follows, size, numbered};
+ghost use Rattle.automaton.specs.Bit.{bit};
+ghost use Rattle.pattern.specs.Positions.{has_empty, begins, ends, follows, size, numbered};
 ghost use Rattle.pattern.specs.Trees.{tree};
 
-use crate::node::Node;
-use automaton::Automaton;
+use crate::node::{MOST_NODES, Node};
+use automaton::{Automaton, POSITIONS};
 
+/// A pattern as it is kept: its nodes, its tests by the numbers under which the alphabet keeps them, and its position
+/// automaton. The test p has the position p - 1.
+// Tests stand in an array with their count beside it, since a pattern is `Copy`.
 #[derive(Clone, Copy)]
 pub struct Pattern {
-    pub(crate) nodes: [Node; 240],
+    pub(crate) nodes: [Node; MOST_NODES],
     pub(crate) root: u8,
-    pub(crate) codes: [u32; 64],
+    pub(crate) codes: [u32; POSITIONS],
     pub(crate) tests: u8,
     pub(crate) tags: u8,
     pub(crate) machine: Automaton,

@@ -1,4 +1,4 @@
-// Patterns: their bytes are cut into tokens, and the tokens are read as an expression.
+//! Patterns: their bytes are cut into tokens, and the tokens are read as an expression.
 #![tactic(auto)]
 
 mod cutter;

@@ -1,18 +1,18 @@
 // The reader: tokens to an expression, by recursive descent.
-ghost use Rattle.std.specs.Prelude.{◌≡◌, ℕ, ◌+◌, ◌-◌, ◌*◌, ◌<◌, ◌≤◌, ◌||◌, length, MatchResult};
-ghost use Rattle.pattern.specs.Expressions.{Expr};
-ghost use Rattle.pattern.specs.Descent.{source, at, kind_at, is_or, is_unit, is_close, is_close_tag, is_end, Want, Reads, bad};
-ghost use Rattle.pattern.specs.Nodes.{Did, Ready, Added, Tested, Kept, Means, Repeated};
+ghost use Rattle.std.specs.Prelude.{◌≡◌, ◌≢◌, ℕ, true, ◌+◌, ◌*◌, ◌<◌, ◌≤◌, length, take, Ok, MatchResult};
+ghost use Rattle.pattern.specs.Descent.{codes_before, tags_before};
 ghost use Rattle.pattern.specs.Patterns.{written};
 ghost use Rattle.pattern.specs.Scanning.{scanned};
 
 use crate::fault::Fault;
 use crate::kept::Pattern;
-use crate::node::Node;
+use crate::node::{MOST_NODES, Node};
 use crate::positions::automaton;
 use crate::token::{Kind, Token};
+use automaton::POSITIONS;
 
-const MOST_TESTS: u8 = 64;
+// Each test has a position of the automaton.
+const MOST_TESTS: u8 = POSITIONS as u8;
 
 const MOST_TAGS: u8 = 8;
 
@@ -25,78 +25,93 @@ pub struct Part {
     tagged: bool,
 }
 
-fn peek(tokens: &[Token], end: usize, pos: usize) -> Token
-    ensures { result ≡ at (source tokens.now end) pos }
-{
-    if pos < tokens.len() {
-        tokens[pos]
-    } else {
-        Token {
-            kind: Kind::End,
-            offset: end,
-        }
-    }
-}
-
-fn or_at(tokens: &[Token], end: usize, pos: usize) -> bool
-    ensures { result ≡ is_or (kind_at (source tokens.now end) pos) }
-{
-    match peek(tokens, end, pos).kind {
-        Kind::Or => true,
-        _ => false,
-    }
-}
-
-fn unit_at(tokens: &[Token], end: usize, pos: usize) -> bool
-    ensures { result ≡ is_unit (kind_at (source tokens.now end) pos) }
-{
-    match peek(tokens, end, pos).kind {
-        Kind::Test(_) | Kind::Open | Kind::OpenTag => true,
-        _ => false,
-    }
-}
-
-fn close_at(tokens: &[Token], end: usize, pos: usize) -> bool
-    ensures { result ≡ is_close (kind_at (source tokens.now end) pos) }
-{
-    match peek(tokens, end, pos).kind {
-        Kind::Close => true,
-        _ => false,
-    }
-}
-
-fn close_tag_at(tokens: &[Token], end: usize, pos: usize) -> bool
-    ensures { result ≡ is_close_tag (kind_at (source tokens.now end) pos) }
-{
-    match peek(tokens, end, pos).kind {
-        Kind::CloseTag => true,
-        _ => false,
-    }
-}
-
-fn end_at(tokens: &[Token], end: usize, pos: usize) -> bool
-    ensures { result ≡ is_end (kind_at (source tokens.now end) pos) }
-{
-    match peek(tokens, end, pos).kind {
-        Kind::End => true,
-        _ => false,
-    }
-}
-
+// A place among the tokens of a pattern of `end` bytes; the nodes and the tests that were made of the tokens before it,
+// and how many tags were opened there. Nodes and tests stand in arrays with their counts beside them, as in the pattern, which
+// takes them over.
 #[derive(Drop)]
-pub struct Reader {
+pub struct Reader<'a> {
+    tokens: &'a [Token],
+    end: usize,
     pos: usize,
-    nodes: [Node; 240],
+    nodes: [Node; MOST_NODES],
     used: u8,
-    codes: [u32; 64],
+    codes: [u32; POSITIONS],
     tests: u8,
     tags: u8,
+    ghost short: { length tokens.now ≤ 120 },
+    ghost within: { pos ≤ length tokens.now },
+    ghost room: { used ≤ 2 * pos },
+    ghost few: { tests ≤ 64 },
+    ghost tests_are: { tests ≡ length (codes_before tokens.now pos) },
+    ghost codes_are: { take tests codes ≡ codes_before tokens.now pos },
+    ghost tags_are: { tags ≡ tags_before tokens.now pos },
 }
 
-impl Reader {
+impl Reader<'_> {
+    ghost use Rattle.pattern.specs.Expressions.{Expr};
+    ghost use Rattle.pattern.specs.Descent.{at, tags, is_plain, Want, Parses, bad};
+    ghost use Rattle.pattern.specs.Nodes.{source_of, kind_here, offset_here, Past, Took, Added, Came, Means, Repeated};
+
+    // The token at the place; past the last one, the end.
+    fn peek(&self) -> Token
+        ensures { result ≡ at (source_of self.now) self.now.pos }
+    {
+        match self.tokens.get(self.pos) {
+            Some(token) => *token,
+            None => Token {
+                kind: Kind::End,
+                offset: self.end,
+            },
+        }
+    }
+
+    // One token on, over a sign that opens no tag.
+    fn advance(&mut self)
+        requires { is_plain (kind_here self.old) ≡ true }
+        ensures { Past self.old self.new }
+    {
+        self.pos += 1;
+    }
+
+    // One token on, if it is of a kind.
+    fn take(&mut self, kind: Kind) -> bool
+        requires { is_plain kind ≡ true }
+        ensures { Took kind self.old result self.new }
+    {
+        let found = self.peek().kind == kind;
+        if found {
+            self.advance();
+        }
+        found
+    }
+
+    // Over the bracket that closes a group.
+    fn close(&mut self, kind: Kind) -> Result<(), Fault>
+        requires { is_plain kind ≡ true }
+        ensures { MatchResult result (λ _. (kind_here self.old ≡ kind) × Past self.old self.new) (λ f. (kind_here self.old ≢ kind) × (f ≡ Fault.LooseBracket (offset_here self.old))) }
+    {
+        if !self.take(kind) {
+            return Err(Fault::LooseBracket(self.peek().offset));
+        }
+        Ok(())
+    }
+
+    // Over the bracket that opens a tag, which gets the next number.
+    fn open_tag(&mut self) -> Result<u8, Fault>
+        requires { kind_here self.old ≡ Kind.OpenTag }
+        ensures { MatchResult result (λ n. (self.old.tags < 8) × (n ≡ self.old.tags + 1) × Past self.old self.new) (λ f. (8 ≤ self.old.tags) × (f ≡ Fault.TooManyTags (offset_here self.old))) }
+    {
+        if self.tags >= MOST_TAGS {
+            return Err(Fault::TooManyTags(self.peek().offset));
+        }
+        self.pos += 1;
+        self.tags += 1;
+        Ok(self.tags)
+    }
+
     // One node more, and its number.
     fn add(&mut self, node: Node) -> u8
-        requires { self.old.used < 240 }
+        requires { self.old.used < 2 * self.old.pos }
         ensures { Added node self.old result self.new }
     {
         let at = self.used;
@@ -105,60 +120,54 @@ impl Reader {
         at
     }
 
-    // One test more, under the next number.
-    fn test(&mut self, code: u32) -> Part
-        requires { (self.old.used < 240) × ((self.old.tests < 64) × (self.old.pos < 120)) }
-        ensures { Tested code self.old result self.new }
+    // Over a test, which gets the next number.
+    fn test(&mut self, code: u32) -> Result<Part, Fault>
+        requires { kind_here self.old ≡ Kind.Test (Ok code) }
+        ensures { (d : ℕ) → Came (Want.unit d) self.old result self.new }
     {
         let tests = self.tests;
+        if tests >= MOST_TESTS {
+            return Err(Fault::TooManyTests(self.peek().offset));
+        }
         self.pos += 1;
         self.codes[tests as usize] = code;
         self.tests = tests + 1;
-        Part {
+        Ok(Part {
             root: self.add(Node::Test(tests + 1)),
             tagged: false,
-        }
+        })
     }
 
     // The `*`, `+` and `?` after a unit.
-    fn repeats(&mut self, tokens: &[Token], end: usize, unit: Part) -> Result<Part, Fault>
-        requires { (Ready (source tokens.now end) self.old) × (unit.root < self.old.used) }
-        ensures { MatchResult result (λ k. Kept (source tokens.now end) self.old k.root self.new × ((e : Expr) → Means self.old.nodes unit e → Repeated (source tokens.now end) self.old e k self.new)) (λ f. (e : Expr) → Means self.old.nodes unit e → Reads (source tokens.now end) (Want.repeats e) self.old.pos (bad f)) }
+    fn repeats(&mut self, unit: Part) -> Result<Part, Fault>
+        requires { unit.root < self.old.used }
+        ensures { MatchResult result (λ k. Repeated self.old unit k self.new) (λ f. (e : Expr) → Means self.old.nodes unit e → Parses (source_of self.old) (Want.repeats e) self.old.pos (bad f)) }
     {
         let mut part = unit;
         'repeats: loop {
-            let token = peek(tokens, end, self.pos);
+            let token = self.peek();
             let node = match token.kind {
-                Kind::Star => {
-                    if part.tagged {
-                        return Err(Fault::RepeatedTag(token.offset));
-                    }
-                    Node::Star(part.root)
-                }
-                Kind::Plus => {
-                    if part.tagged {
-                        return Err(Fault::RepeatedTag(token.offset));
-                    }
-                    Node::Plus(part.root)
-                }
                 Kind::Opt => Node::Opt(part.root),
+                Kind::Star | Kind::Plus if part.tagged => {
+                    return Err(Fault::RepeatedTag(token.offset));
+                }
+                Kind::Star => Node::Star(part.root),
+                Kind::Plus => Node::Plus(part.root),
                 _ => return Ok(part),
             };
-            self.pos += 1;
+            self.advance();
             part.root = self.add(node);
         }
     }
 
     // Branches with `|` between them.
     #[cycle(branch_group_item)]
-    fn group(&mut self, tokens: &[Token], end: usize, depth: u8) -> Result<Part, Fault>
-        requires { (Ready (source tokens.now end) self.old) × (depth ≤ 8) }
-        ensures { MatchResult result (λ k. Did (Want.group depth) (source tokens.now end) self.old k self.new) (λ f. Reads (source tokens.now end) (Want.group depth) self.old.pos (bad f)) }
+    fn group(&mut self, depth: u8) -> Result<Part, Fault>
+        ensures { Came (Want.group depth) self.old result self.new }
     {
-        let mut left = self.branch(tokens, end, depth)?;
-        while or_at(tokens, end, self.pos) {
-            self.pos += 1;
-            let right = self.branch(tokens, end, depth)?;
+        let mut left = self.branch(depth)?;
+        while self.take(Kind::Or) {
+            let right = self.branch(depth)?;
             left = Part {
                 root: self.add(Node::Or(left.root, right.root)),
                 tagged: left.tagged | right.tagged,
@@ -169,13 +178,12 @@ impl Reader {
 
     // Items in a row.
     #[cycle(branch_group_item)]
-    fn branch(&mut self, tokens: &[Token], end: usize, depth: u8) -> Result<Part, Fault>
-        requires { (Ready (source tokens.now end) self.old) × (depth ≤ 8) }
-        ensures { MatchResult result (λ k. Did (Want.branch depth) (source tokens.now end) self.old k self.new) (λ f. Reads (source tokens.now end) (Want.branch depth) self.old.pos (bad f)) }
+    fn branch(&mut self, depth: u8) -> Result<Part, Fault>
+        ensures { Came (Want.branch depth) self.old result self.new }
     {
-        let mut left = self.item(tokens, end, depth)?;
-        while unit_at(tokens, end, self.pos) {
-            let right = self.item(tokens, end, depth)?;
+        let mut left = self.item(depth)?;
+        while self.peek().kind.is_unit() {
+            let right = self.item(depth)?;
             left = Part {
                 root: self.add(Node::Seq(left.root, right.root)),
                 tagged: left.tagged | right.tagged,
@@ -186,48 +194,25 @@ impl Reader {
 
     // A test, a group or a tag, and what repeats it.
     #[cycle(branch_group_item)]
-    fn item(&mut self, tokens: &[Token], end: usize, depth: u8) -> Result<Part, Fault>
-        requires { (Ready (source tokens.now end) self.old) × (depth ≤ 8) }
-        ensures { MatchResult result (λ k. Did (Want.item depth) (source tokens.now end) self.old k self.new) (λ f. Reads (source tokens.now end) (Want.item depth) self.old.pos (bad f)) }
+    fn item(&mut self, depth: u8) -> Result<Part, Fault>
+        ensures { Came (Want.item depth) self.old result self.new }
     {
-        let token = peek(tokens, end, self.pos);
+        let token = self.peek();
         let unit = match token.kind {
-            Kind::Test(read) => {
-                let code = read?;
-                if self.tests >= MOST_TESTS {
-                    return Err(Fault::TooManyTests(token.offset));
-                }
-                self.test(code)
+            Kind::Test(read) => self.test(read?)?,
+            Kind::Open | Kind::OpenTag if depth >= MOST_OPEN => {
+                return Err(Fault::TooDeep(token.offset));
             }
             Kind::Open => {
-                if depth >= MOST_OPEN {
-                    return Err(Fault::TooDeep(token.offset));
-                }
-                self.pos += 1;
-                let inner = self.group(tokens, end, depth + 1)?;
-                let close = peek(tokens, end, self.pos);
-                if !close_at(tokens, end, self.pos) {
-                    return Err(Fault::LooseBracket(close.offset));
-                }
-                self.pos += 1;
+                self.advance();
+                let inner = self.group(depth + 1)?;
+                self.close(Kind::Close)?;
                 inner
             }
             Kind::OpenTag => {
-                if depth >= MOST_OPEN {
-                    return Err(Fault::TooDeep(token.offset));
-                }
-                if self.tags >= MOST_TAGS {
-                    return Err(Fault::TooManyTags(token.offset));
-                }
-                let tag = self.tags + 1;
-                self.pos += 1;
-                self.tags = tag;
-                let inner = self.group(tokens, end, depth + 1)?;
-                let close = peek(tokens, end, self.pos);
-                if !close_tag_at(tokens, end, self.pos) {
-                    return Err(Fault::LooseBracket(close.offset));
-                }
-                self.pos += 1;
+                let tag = self.open_tag()?;
+                let inner = self.group(depth + 1)?;
+                self.close(Kind::CloseTag)?;
                 Part {
                     root: self.add(Node::Tag(tag, inner.root)),
                     tagged: true,
@@ -235,7 +220,7 @@ impl Reader {
             }
             _ => return Err(Fault::MissingUnit(token.offset)),
         };
-        self.repeats(tokens, end, unit)
+        self.repeats(unit)
     }
 }
 
@@ -245,18 +230,20 @@ pub(crate) fn parse(tokens: &[Token], end: usize) -> Result<Pattern, Fault>
     ensures { written result ≡ scanned end tokens.now }
 {
     let mut reader = Reader {
+        tokens,
+        end,
         pos: 0,
-        nodes: [Node::Test(0); 240],
+        nodes: [Node::Test(0); MOST_NODES],
         used: 0,
-        codes: [0; 64],
+        codes: [0; POSITIONS],
         tests: 0,
         tags: 0,
     };
-    let whole = reader.group(tokens, end, 0)?;
-    let behind = peek(tokens, end, reader.pos);
-    if !end_at(tokens, end, reader.pos) {
+    let whole = reader.group(0)?;
+    let behind = reader.peek();
+    let Kind::End = behind.kind else {
         return Err(Fault::LooseBracket(behind.offset));
-    }
+    };
     let machine = automaton(&reader.nodes, whole.root);
     Ok(Pattern {
         nodes: reader.nodes,

@@ -7,17 +7,15 @@ ghost use Rattle.pattern.specs.Spelling.{HasWords};
 ghost use Rattle.pattern.specs.Scanning.{syntax_of};
 ghost use Rattle.pattern.specs.Tokens.{SameReading};
 
-use crate::cutter::cut;
+use crate::cutter::{MOST_BYTES, cut};
 use crate::fault::Fault;
 use crate::kept::Pattern;
 use crate::reader::parse;
 use alphabet::{Alphabet, Notation};
 use automaton::Automaton;
 
-const MOST_BYTES: usize = 120;
-
 impl Pattern {
-    // Reads a pattern in a notation, or says what is the first thing wrong with it.
+    /// Reads a pattern in a notation, or says what is the first thing wrong with it.
     pub fn read<N: Notation>(notation: &mut N, bytes: &[u8]) -> Result<Pattern, Fault>
         ensures pattern_or_first_fault { written result ≡ syntax_of (N.Notation.reading notation.old) bytes.now }
         ensures exactly_what_the_grammar_derives { MatchResult result (λ p. DerivesOnly (N.Notation.reading notation.old) bytes.now (syntax p)) (λ _. (x : Syntax) → Derivable (N.Notation.reading notation.old) bytes.now x → ⊥) }
@@ -29,34 +27,32 @@ impl Pattern {
             return Err(Fault::TooLong);
         }
         let tokens = cut(notation, bytes);
-        parse(&tokens.list[0..tokens.len], bytes.len())
+        parse(&tokens, bytes.len())
     }
 
-    // The numbers by which the alphabet keeps the tests, in their order.
+    /// The numbers by which the alphabet keeps the tests, in their order.
     pub fn codes(&self) -> &[u32]
         ensures codes { result.now ≡ (syntax self.now).codes }
         ensures few { length result.now ≤ 64 }
     {
-        let count = self.tests as usize;
-        let all = &self.codes[..];
-        &all[0..count]
+        &self.codes[..self.tests as usize]
     }
 
-    // The position automaton, which has exactly the pattern's words.
+    /// The position automaton, which has exactly the pattern's words.
     pub fn automaton(&self) -> &Automaton
         ensures { HasWords (length (syntax self.now).codes) (syntax self.now).tree result.now }
     {
         &self.machine
     }
 
-    // How many tests the pattern has.
+    /// How many tests the pattern has.
     pub fn tests(&self) -> usize
         ensures { result ≡ length (syntax self.now).codes }
     {
         self.codes().len()
     }
 
-    // How many tags the pattern has.
+    /// How many tags the pattern has.
     pub fn tags(&self) -> usize
         ensures { result ≡ (syntax self.now).tags }
     {

@@ -17,6 +17,7 @@ fn main(rt: HostRuntime) -> io::Result<()> {
     let mut proofreader = Proofreader::new();
     let mut text = Text::new();
     let mut begun = false;
+    // The count ends the loop where no input's end does.
     for _ in 0..u64::MAX {
         // No verdict waits while the next line is waited for.
         if input.buffer().is_empty() {
@@ -26,10 +27,11 @@ fn main(rt: HostRuntime) -> io::Result<()> {
         if chunk.is_empty() {
             break;
         }
-        let (n, ended) = line.take_in(chunk);
+        let end = line.take_in(chunk);
+        let n = end.unwrap_or(chunk.len());
         input.consume(n);
-        begun = !ended;
-        if ended {
+        begun = end.is_none();
+        if end.is_some() {
             proofreader.proofread(line.bytes(), &mut text);
             output.write_all(text.bytes())?;
             line.clear();

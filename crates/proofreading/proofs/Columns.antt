@@ -1,19 +1,16 @@
 -- Where a byte of the pattern begins on its line.
-use Rattle.std.proofs.Common.{◌≡◌, ℕ, ◌≤◌, List, [], ◌∷◌, ◌++◌, length, take, drop, replicate, codes, sym, refl, ap, ◌∙◌, append_assoc, arith, take-append-drop}
+use Rattle.std.proofs.Common.{◌≡◌, ℕ, ◌≤◌, List, ◌++◌, length, take, drop, replicate, codes, sym, ap, ◌∙◌, append_assoc, arith, take-append-drop}
 use Rattle.std.proofs.lemmas.List.{replicate-append-replicate, take_all, drop_at}
 use Rattle.std.proofs.lemmas.Bool.{le-ltb, cond-false}
+use Rattle.std.proofs.lemmas.Grind.{flat_map-append}
 use Rattle.proofreading.specs.Showing.{shown, shown_byte, pattern_line, column, CaretStandsBelow}
-
-shown_append : (a b : List ℕ) → shown (a ++ b) ≡ shown a ++ shown b
-shown_append [] b = refl
-shown_append (x ∷ a) b = ap (λ l. shown_byte x ++ l) (shown_append a b) ∙ sym (append_assoc (shown_byte x) (shown a) (shown b))
 
 -- the line of a pattern that is shown whole, with the bytes before an offset apart
 parted : (bs : List ℕ) (at : ℕ) → length bs ≤ 120 → pattern_line bs ≡ (codes "    " ++ shown (take at bs)) ++ (shown (drop at bs) ++ codes "\n")
 parted bs at w =
     let before = shown (take at bs) in
     let after = shown (drop at bs) in
-    let all : shown (take 120 bs) ≡ before ++ after = ap shown (take_all 120 bs w ∙ sym (take-append-drop at bs)) ∙ shown_append (take at bs) (drop at bs) in
+    let all : shown (take 120 bs) ≡ before ++ after = ap shown (take_all 120 bs w ∙ sym (take-append-drop at bs)) ∙ flat_map-append shown_byte (take at bs) (drop at bs) in
     ap (λ l. codes "    " ++ (shown (take 120 bs) ++ l)) (cond-false _ _ _ (le-ltb 120 (length bs) w))
     ∙ ap (λ l. codes "    " ++ (l ++ codes "\n")) all
     ∙ ap (λ l. codes "    " ++ l) (append_assoc before after (codes "\n"))

@@ -7,7 +7,7 @@ use Rattle.pattern.specs.declared.fault.Fault.TheVariants.{TooLong}
 use Rattle.pattern.specs.Expressions.{Syntax}
 use Rattle.pattern.specs.Scanning.{syntax_of, scanned}
 use Rattle.pattern.specs.Tokens.{Reading, tokens}
-use Rattle.shelf.specs.declared.place.Place.{Place}
+use Rattle.pattern.specs.declared.kept.Pattern.{Pattern}
 use Rattle.shelf.specs.declared.refusal.Refusal.{Refusal}
 use Rattle.shelf.specs.declared.refusal.Refusal.TheVariants.{PlaceTaken, Unlawful}
 use Rattle.shelf.specs.Places.{held_at}
@@ -23,7 +23,7 @@ nothing None e = refl
 nothing (Some x) e = cc
 
 -- filing at a place where nothing stands answers by the bytes alone
-pub by_bytes : (reading : Reading) (places : List Place) (bytes : List ℕ) → is_some (held_at places 0) ≡ false → filing reading places 0 bytes ≡ unlawful (syntax_of reading bytes)
+pub by_bytes : (reading : Reading) (places : List (Option Pattern)) (bytes : List ℕ) → is_some (held_at places 0) ≡ false → filing reading places 0 bytes ≡ unlawful (syntax_of reading bytes)
 by_bytes reading places bytes e = ap (λ o. elim o as (λ _. Result Syntax Refusal) [ None ↦ unlawful (syntax_of reading bytes) | Some y ↦ Err PlaceTaken ]) (nothing (held_at places 0) e)
 
 long_verdict : (bytes : List ℕ) → 120 < length bytes → verdict_on bytes ≡ Err (Unlawful TooLong)

@@ -1,4 +1,5 @@
 -- How the bytes of a pattern are shown on a line of text.
+use Rattle.std.specs.List.{flat_map}
 use Rattle.std.specs.Prelude.{◌≡◌, ℕ, ◌+◌, ◌/◌, ◌%◌, ◌≤◌, Bool, cond, ◌&&◌, List, [], ◌∷◌, ◌++◌, length, take, drop, replicate, Some, None, codes, Option, nat_le, nat_lt}
 
 abbrev pub hex_digit : ℕ → ℕ
@@ -12,8 +13,7 @@ abbrev pub shown_byte : ℕ → List ℕ
 shown_byte b = cond (prints b) (b ∷ []) (codes "\\x" ++ (hex_digit (b / 16) ∷ hex_digit (b % 16) ∷ []))
 
 abbrev pub shown : List ℕ → List ℕ
-shown [] = []
-shown (b ∷ bs) = shown_byte b ++ shown bs
+shown bs = flat_map shown_byte bs
 
 -- the first 120 bytes of the pattern, and dots where it has more
 abbrev pub pattern_line : List ℕ → List ℕ

@@ -3,9 +3,9 @@ use Rattle.std.specs.Prelude.{ℕ, List, [], ◌++◌, Some, None, Ok, Err, code
 use Rattle.alphabet.specs.declared.Cause.{Cause}
 use Rattle.alphabet.specs.Causes.{cause_number}
 use Rattle.shelf.specs.declared.refusal.Refusal.{Refusal}
-use Rattle.shelf.specs.Refusals.{refusal_number, refusal_offset, refusal_cause}
+use Rattle.shelf.specs.Refusals.{refusal_number, refusal_words, refusal_offset, refusal_cause}
 use Rattle.proofreading.specs.Showing.{pattern_line, caret_line}
-use Rattle.proofreading.specs.Words.{refusal_words, counted}
+use Rattle.proofreading.specs.Words.{counted}
 
 -- a lawful pattern's numbers of tests and tags, or why it is refused
 abbrev pub Verdict : Type 0

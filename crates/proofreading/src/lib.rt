@@ -1,5 +1,5 @@
 // What a proof-reader of patterns prints: a verdict on each pattern, and a report at the end.
-#![tactic(auto)]
+#![tactic(auto, using(text::proofs::Chains::nothing))]
 
 pub mod proofreader;
 pub mod report;

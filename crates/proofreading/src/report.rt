@@ -7,15 +7,15 @@ use crate::tally::Tally;
 use crate::words::{refusal_name, write_count};
 use text::buffer::Text;
 
-fn write_head(out: &mut Text, patterns: u64, lawful: u64, refused: u64)
-    ensures { Adds out.old (report_head patterns lawful refused) out.new }
+fn write_head(out: &mut Text, tally: &Tally)
+    ensures { Adds out.old (report_head tally.now.patterns tally.now.lawful tally.now.refused) out.new }
 {
     out.text(b"report: ");
-    write_count(out, patterns, b"pattern");
+    write_count(out, tally.patterns, b"pattern");
     out.text(b", ");
-    out.number(lawful);
+    out.number(tally.lawful);
     out.text(b" lawful, ");
-    out.number(refused);
+    out.number(tally.refused);
     out.text(b" refused\n");
 }
 
@@ -39,8 +39,8 @@ pub fn write_report(out: &mut Text, tally: &Tally)
     ensures { written out.new ≡ report_text tally.now }
 {
     out.clear();
-    write_head(out, tally.patterns, tally.lawful, tally.refused);
-    for number in 1..16 {
-        write_number(out, number, tally.by_number[number]);
+    write_head(out, tally);
+    for (number, count) in tally.by_number.iter().enumerate().skip(1) {
+        write_number(out, number, *count);
     }
 }

@@ -8,12 +8,14 @@ use text::buffer::Text;
 // Of a longer pattern only so many bytes are shown.
 const SHOWN: usize = 120;
 
+// The first n bytes, or all where there are fewer.
 fn first(bytes: &[u8], n: usize) -> &[u8]
     ensures { result.now ≡ take n bytes.now }
 {
-    if n < bytes.len() { &bytes[0..n] } else { bytes }
+    &bytes[..n.min(bytes.len())]
 }
 
+// `char::from_digit` gives small letters, and `{:X}` is written by `write!`, which may fail.
 fn hex_digit(d: u8) -> u8
     requires { d < 16 }
     ensures { result ≡ hex_digit d }
@@ -24,7 +26,7 @@ fn hex_digit(d: u8) -> u8
 fn is_printable(byte: u8) -> bool
     ensures { result ≡ prints byte }
 {
-    byte >= b' ' && byte <= b'~'
+    matches!(byte, b' '..=b'~')
 }
 
 // A byte that prints is shown as itself, any other as `\x` and two digits.

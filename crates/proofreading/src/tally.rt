@@ -8,10 +8,12 @@ pub struct Tally {
     pub patterns: u64,
     pub lawful: u64,
     pub refused: u64,
+    // By the refusals' numbers, which are what the report tells.
     pub by_number: [u64; 16],
 }
 
 impl Tally {
+    #[tactic(auto, using(crate::proofs::Recounts::none_yet_lem))]
     pub fn new() -> Tally
         ensures { Starts result }
     {
@@ -24,6 +26,7 @@ impl Tally {
     }
 
     // Counts a verdict. A count that can rise no more stays as it is.
+    #[tactic(auto, using(crate::proofs::Recounts::recounted))]
     pub fn count(&mut self, verdict: Result<(usize, usize), Refusal>)
         ensures { Counts self.old verdict self.new }
     {
@@ -31,7 +34,7 @@ impl Tally {
         match verdict {
             Ok(_) => self.lawful = self.lawful.saturating_add(1),
             Err(refusal) => {
-                let number = refusal.number() as usize;
+                let number = usize::from(refusal.number());
                 self.refused = self.refused.saturating_add(1);
                 self.by_number[number] = self.by_number[number].saturating_add(1);
             }

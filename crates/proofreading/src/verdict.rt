@@ -5,7 +5,7 @@ ghost use Rattle.proofreading.specs.Verdicts.{verdict_text, lawful_text, refused
 ghost use Rattle.text.specs.Texts.{written, Adds};
 
 use crate::showing::{write_caret, write_pattern};
-use crate::words::{refusal_words, write_count};
+use crate::words::write_count;
 use alphabet::Cause;
 use shelf::refusal::Refusal;
 use text::buffer::Text;
@@ -47,7 +47,7 @@ fn write_refused(out: &mut Text, bytes: &[u8], refusal: Refusal)
     write_offset(out, refusal.offset());
     write_cause(out, refusal.cause());
     out.text(b", ");
-    out.text(refusal_words(refusal));
+    out.text(refusal.words().as_bytes());
     out.text(b"\n");
     write_pattern(out, bytes);
     write_caret(out, bytes, refusal.offset());

@@ -86,6 +86,7 @@ mod tests {
             Ordering::Equal
         }
     }
+
     // The measure of three symbols with these sets of tags.
     fn three<R: Ranking>(ranking: &R, a: u8, b: u8, c: u8) -> R::Measure
         ensures { Near (R.Ranking.start ranking.now) (R.Ranking.stepped ranking.now) 160 result }

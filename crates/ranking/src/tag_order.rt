@@ -6,6 +6,7 @@ ghost use Rattle.ranking.specs.Lengths.{swapped, transitive, same_step};
 use crate::Ranking;
 use std::cmp::Ordering;
 
+// How many tags there are.
 const TAGS: usize = 8;
 
 /// Ranks a trail by the length of tag 1, then by that of tag 2, and so on to tag 8. The length of a tag is how many symbols have it.
@@ -13,7 +14,7 @@ const TAGS: usize = 8;
 pub struct TagOrder;
 
 impl Ranking for TagOrder {
-    type Measure = [u8; 8];
+    type Measure = [u8; TAGS];
 
     ghost start = { λ _. replicate 8 0 };
 
@@ -28,20 +29,20 @@ impl Ranking for TagOrder {
           same_step = λ {a} {b} _ _ tags _. same_step a b tags;
         } };
 
-    fn start(&self) -> [u8; 8] {
+    fn start(&self) -> [u8; TAGS] {
         [0; TAGS]
     }
 
-    fn step(&self, measure: [u8; 8], tags: u8) -> [u8; 8] {
+    fn step(&self, measure: [u8; TAGS], tags: u8) -> [u8; TAGS] {
         let mut lengths = measure;
-        for k in 0..TAGS {
-            lengths[k] += (tags >> k) % 2;
+        for (k, length) in lengths.iter_mut().enumerate() {
+            *length += (tags >> k) % 2;
         }
         lengths
     }
 
     #[tactic(auto, using(crate::specs::Lengths::answered))]
-    fn compare(&self, a: &[u8; 8], b: &[u8; 8]) -> Ordering {
+    fn compare(&self, a: &[u8; TAGS], b: &[u8; TAGS]) -> Ordering {
         a.cmp(b)
     }
 }

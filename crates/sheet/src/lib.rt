@@ -49,6 +49,7 @@ impl Sheet {
     }
 
     /// Fills the entry of one tag, and says whether there is such a tag. Every other entry stays as it is.
+    // A bool, since there is nothing more to say; and a match, since tags begin at 1, so that `get_mut` would need a `checked_sub` before it.
     pub fn fill(&mut self, tag: usize, part: Option<Part>) -> bool
         ensures whether { result ≡ is_tag tag }
         ensures filled { self.new.entries ≡ with_entry self.old.entries tag part }

@@ -1,16 +1,21 @@
 -- What the automaton reads by the rows of a line is what the pattern reads of the line.
 use Rattle.std.proofs.Common.{◌≡◌, ℕ, zero, suc, ◌+◌, ◌-◌, ◌≤◌, Bool, ltb, List, [], ◌∷◌, length, get_or, take, drop, sum, sym, refl, ap, ◌∙◌, subst, inl, inr, arith, length-drop, drop-cons}
+use Rattle.std.proofs.lemmas.Bool.{and_from, and_parts}
 use borrow.Author.Tests.{lt-true}
 use Rattle.automaton.specs.declared.machine.Automaton.{Automaton}
 use Rattle.automaton.specs.Reads as machine
-use Rattle.automaton.specs.Marked as marking
-use Rattle.pattern.specs.Expressions.{Expr, Word}
-use Rattle.pattern.specs.Spelling.{tests_of, Below, HasWords}
-use Rattle.pattern.proofs.BitSets.{bit_in, in_bit}
-use Rattle.pattern.proofs.Sets.{and_true, and_both}
-use Rattle.shelf.specs.Matching.{test_admits, Admitted, stretch, Reads, Longest, NoneReads, Covered, MarkedRight, Marks}
-use Rattle.shelf.specs.RowTables.{RowsOf}
-use Rattle.shelf.proofs.Rowing.{rows_length}
+use Rattle.automaton.specs.Stretches.{Longest, NoneReads, Covered, MarkedRight, Marks}
+use Rattle.pattern.specs.Expressions.{Word, Syntax}
+use Rattle.pattern.specs.Spelling.{tests_of, Below}
+use Rattle.automaton.proofs.BitTests.{bit_in, in_bit}
+use Rattle.shelf.specs.Asking.{Asked}
+use Rattle.shelf.specs.Matching.{test_admits, Admitted, stretch, Reads}
+use Rattle.asking.specs.RowTables.{RowsOf}
+use Rattle.asking.proofs.Rowing.{rows_length}
+
+-- what one relation of stretches covers, a wider one covers
+covered_by : {R Q : ℕ → ℕ → Type 0} → ((l r : ℕ) → R l r → Q l r) → (i : ℕ) → Covered R i → Covered Q i
+covered_by f i h = record { left = h.left; right = h.right; from = h.from; to = h.to; reads = f h.left h.right h.reads }
 
 module _ {S : Type 0} (meaning : ℕ → S → Bool) (codes : List ℕ) where
   abbrev admits : ℕ → S → Bool
@@ -41,7 +46,7 @@ module _ {S : Type 0} (meaning : ℕ → S → Bool) (codes : List ℕ) where
     where
       by : (xs : List S) → RowsOf passes n xs (get_or rows l 0 ∷ drop (suc l) rows) → ((rest : List S) → RowsOf passes n rest (drop (suc l) rows) → Admitted admits (tests_of ks) (take (length ks) rest)) → Admitted admits (tests_of (k ∷ ks)) (take (length (k ∷ ks)) xs)
       by [] q on = absurd q
-      by (s ∷ rest) q on = (same k s ∙ (and_true (ltb k n) (passes k s) (sym (q.0 k) ∙ in_bit a.1)).1, on rest q.1)
+      by (s ∷ rest) q on = (same k s ∙ (and_parts (ltb k n) (passes k s) (sym (q.0 k) ∙ in_bit a.1)).1, on rest q.1)
 
   long_enough : (n l m : ℕ) (line : List S) (rows : List ℕ) → RowsOf passes n line (drop l rows) → l + m ≤ length rows → m ≤ length line
   long_enough n l m line rows h b = omega (arith, rows_length passes n line (drop l rows) h, length-drop l rows)
@@ -58,58 +63,55 @@ module _ {S : Type 0} (meaning : ℕ → S → Bool) (codes : List ℕ) where
     where
       by : (xs : List S) → RowsOf passes n xs (get_or rows l 0 ∷ drop (suc l) rows) → Admitted admits (tests_of (k ∷ ks)) (take (suc m) xs) → ((rest : List S) → RowsOf passes n rest (drop (suc l) rows) → Admitted admits (tests_of ks) (take m rest) → machine.Admits rows (l + 1) (l + suc m) ks) → machine.Admits rows l (l + suc m) (k ∷ ks)
       by [] q c on = absurd q
-      by (s ∷ rest) q c on = (omega arith, bit_in {x = get_or rows l 0} {k = k} (q.0 k ∙ and_both (ltb k n) (passes k s) (sym (lt-true k n f.0)) (sym (same k s) ∙ c.0)), on rest q.1 c.1)
+      by (s ∷ rest) q c on = (omega arith, bit_in {x = get_or rows l 0} {k = k} (q.0 k ∙ and_from (ltb k n) (passes k s) (sym (lt-true k n f.0)) (sym (same k s) ∙ c.0)), on rest q.1 c.1)
 
 -- the two readings
-module _ {S : Type 0} (meaning : ℕ → S → Bool) (codes : List ℕ) (e : Expr) (a : Automaton) (words : HasWords (length codes) e a) (line : List S) (rows : List ℕ)
-    (rs : RowsOf (λ k s. meaning (get_or codes k 0) s) (length codes) line rows) where
-  long : length rows ≡ length line
-  long = rows_length (λ k s. meaning (get_or codes k 0) s) (length codes) line rows rs
+module _ {S : Type 0} (meaning : ℕ → S → Bool) (line : List S) (x : Syntax) (a : Automaton) (rows : List ℕ) (asked : Asked meaning line x a rows) where
+  abbrev pub PatternReads : ℕ → ℕ → Type 0
+  PatternReads = Reads (test_admits meaning x.codes) x.tree line
 
-  from_machine : (l r : ℕ) → machine.Reads a rows l r → Reads (test_admits meaning codes) e line l r
-  from_machine l r x =
-      let ks = x.positions in
-      let t = ends_at meaning codes rows l r ks x.admits in
+  pub long : length rows ≡ length line
+  long = rows_length (λ k s. meaning (get_or x.codes k 0) s) (length x.codes) line rows asked.are_rows
+
+  from_machine : (l r : ℕ) → machine.Reads a rows l r → PatternReads l r
+  from_machine l r h =
+      let ks = h.positions in
+      let t = ends_at meaning x.codes rows l r ks h.admits in
       record {
         ordered = omega (arith, t.0);
         within = omega (arith, t.1, long);
         word = tests_of ks;
-        is_word = words.spelled ks x.walks;
-        admitted = subst (λ m. Admitted (test_admits meaning codes) (tests_of ks) (take m (drop l line))) (let q : length ks ≡ r - l = omega (arith, t.0) in q) (forth meaning codes (length codes) l r rows ks (drop l line) (rows_drop meaning codes (length codes) l line rows rs) x.admits);
+        is_word = asked.has_words.spelled ks h.walks;
+        admitted = subst (λ m. Admitted (test_admits meaning x.codes) (tests_of ks) (take m (drop l line))) (let q : length ks ≡ r - l = omega (arith, t.0) in q) (forth meaning x.codes (length x.codes) l r rows ks (drop l line) (rows_drop meaning x.codes (length x.codes) l line rows asked.are_rows) h.admits);
       }
 
-  to_machine : (l r : ℕ) → Reads (test_admits meaning codes) e line l r → machine.Reads a rows l r
-  to_machine l r x =
-      let p = words.placed x.word x.is_word in
+  to_machine : (l r : ℕ) → PatternReads l r → machine.Reads a rows l r
+  to_machine l r h =
+      let p = asked.has_words.placed h.word h.is_word in
       let ks = p.0 in
-      let whole : l + (r - l) ≡ r = omega (arith, x.ordered) in
+      let whole : l + (r - l) ≡ r = omega (arith, h.ordered) in
       record {
         positions = ks;
-        walks = words.walked ks (subst (Word e) p.1 x.is_word);
-        admits = subst (λ i. machine.Admits rows l i ks) whole (back meaning codes (length codes) l (r - l) rows ks (drop l line) (rows_drop meaning codes (length codes) l line rows rs) (omega (arith, x.ordered, x.within, long)) p.2 (subst (λ w. Admitted (test_admits meaning codes) w (stretch line l r)) p.1 x.admitted));
+        walks = asked.has_words.walked ks (subst (Word x.tree) p.1 h.is_word);
+        admits = subst (λ i. machine.Admits rows l i ks) whole (back meaning x.codes (length x.codes) l (r - l) rows ks (drop l line) (rows_drop meaning x.codes (length x.codes) l line rows asked.are_rows) (omega (arith, h.ordered, h.within, long)) p.2 (subst (λ w. Admitted (test_admits meaning x.codes) w (stretch line l r)) p.1 h.admitted));
       }
 
-  pub longest_of : (ends : ℕ × ℕ) → machine.Longest a rows ends → Longest (test_admits meaning codes) e line ends
-  longest_of ends x = record { reads = from_machine ends.0 ends.1 x.0; ahead = λ l r h. x.1 l r (to_machine l r h) }
+  pub longest_of : (ends : ℕ × ℕ) → Longest (machine.Reads a rows) ends → Longest PatternReads ends
+  longest_of ends h = record { reads = from_machine ends.0 ends.1 h.reads; ahead = λ l r k. h.ahead l r (to_machine l r k) }
 
-  pub none_of : machine.Silent a rows → NoneReads (test_admits meaning codes) e line
-  none_of x l r h = x l r (to_machine l r h)
+  pub none_of : NoneReads (machine.Reads a rows) → NoneReads PatternReads
+  none_of h l r k = h l r (to_machine l r k)
 
-  covered_of : (i : ℕ) → marking.Covered a rows i → Covered (test_admits meaning codes) e line i
-  covered_of i x = record { left = x.0; right = x.1; from = x.2; to = x.3; reads = from_machine x.0 x.1 x.4 }
+  marked_of : (i m : ℕ) → MarkedRight (machine.Reads a rows) i m → MarkedRight PatternReads i m
+  marked_of i m (inl h) = inl (h.0, covered_by from_machine i h.1)
+  marked_of i m (inr h) = inr (h.0, λ k. h.1 (covered_by to_machine i k))
 
-  of_covered : (i : ℕ) → Covered (test_admits meaning codes) e line i → marking.Covered a rows i
-  of_covered i x = (x.left, x.right, x.from, x.to, to_machine x.left x.right x.reads)
-
-  marked_of : (i m : ℕ) → marking.Marked a rows i m → MarkedRight (test_admits meaning codes) e line i m
-  marked_of i m (inl x) = inl (x.0, covered_of i x.1)
-  marked_of i m (inr x) = inr (x.0, λ h. x.1 (of_covered i h))
-
-  pub marks_of : (before after : List ℕ) (count : ℕ) → marking.Marks a rows before after count → Marks (test_admits meaning codes) e line before after count
-  marks_of before after count x =
+  pub marks_of : (before after : List ℕ) (count : ℕ) → Marks (machine.Reads a rows) (length rows) before after count → Marks PatternReads (length line) before after count
+  marks_of before after count h =
       record {
-        kept = x.kept;
-        marks = λ i h. marked_of i (get_or after i 0) (x.marks i (omega (arith, long)));
-        rest = λ i h. x.rest i (omega (arith, long));
-        counted = x.counted ∙ ap (λ n. sum (take n after)) long;
+        room = omega (arith, h.room, long);
+        kept = h.kept;
+        marks = λ i k. marked_of i (get_or after i 0) (h.marks i (omega (arith, long)));
+        rest = λ i k. h.rest i (omega (arith, long));
+        counted = h.counted ∙ ap (λ n. sum (take n after)) long;
       }

@@ -1,4 +1,3 @@
-mod Rowing
-mod Bridging
-mod LanguageLaws
-mod Answering
+pub mod Bridging
+pub mod LanguageLaws
+pub mod Answering

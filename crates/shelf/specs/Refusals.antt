@@ -1,7 +1,7 @@
--- The refusals of the shelf's calls, by number, offset and cause.
-use Rattle.std.specs.Prelude.{ℕ, None, Option}
+-- The refusals of the shelf's calls, by number, offset and cause, and in words.
+use Rattle.std.specs.Prelude.{ℕ, List, None, codes, Option}
 use Rattle.alphabet.specs.declared.Cause.{Cause}
-use Rattle.pattern.specs.Faults.{fault_number, fault_offset, fault_cause}
+use Rattle.pattern.specs.Faults.{fault_number, fault_words, fault_offset, fault_cause}
 use Rattle.shelf.specs.declared.refusal.Refusal.{Refusal}
 use Rattle.shelf.specs.declared.refusal.Refusal.TheVariants.{NoSuchPlace, PlaceTaken, PlaceBare, Unlawful, LineTooLong, BufferTooShort, NoMatch}
 
@@ -13,6 +13,15 @@ refusal_number (Unlawful f) = fault_number f
 refusal_number LineTooLong = 12
 refusal_number BufferTooShort = 13
 refusal_number NoMatch = 15
+
+abbrev pub refusal_words : Refusal → List ℕ
+refusal_words NoSuchPlace = codes "no such place"
+refusal_words PlaceTaken = codes "the place is taken"
+refusal_words PlaceBare = codes "the place has no pattern"
+refusal_words (Unlawful f) = fault_words f
+refusal_words LineTooLong = codes "a line of more than 160 symbols"
+refusal_words BufferTooShort = codes "the buffer is too short"
+refusal_words NoMatch = codes "nothing reads"
 
 abbrev pub refusal_offset : Refusal → Option ℕ
 refusal_offset NoSuchPlace = None

@@ -1,21 +1,18 @@
 // A shelf of ten places for patterns, over any notation.
 #![tactic(auto)]
 
-ghost use Rattle.std.specs.Prelude.{◌≡◌, replicate, is_ok, if◌then◌else◌, None, MatchResult, slice_set};
+ghost use Rattle.std.specs.Prelude.{◌≡◌, ◌<◌, replicate, is_ok, if◌then◌else◌, None, Ok, Err, MatchResult, OnOk, slice_set};
+ghost use Rattle.pattern.specs.Patterns.{syntax};
 ghost use Rattle.pattern.specs.Tokens.{SameReading};
-ghost use Rattle.shelf.specs.declared.place.Place.TheVariants.{Bare};
-ghost use Rattle.shelf.specs.Places.{held_at};
+ghost use Rattle.shelf.specs.Places.{held_at, standing};
 ghost use Rattle.shelf.specs.Filing.{filing, counts, FiledAfter, Fileable, Readable, withdrawing};
 
 use alphabet::{Alphabet, Notation};
 use pattern::kept::Pattern;
 
-mod asking;
-mod place;
 pub mod refusal;
 mod reports;
 
-use place::Place;
 use refusal::Refusal;
 
 const PLACES: usize = 10;
@@ -23,19 +20,28 @@ const PLACES: usize = 10;
 #[derive(Drop)]
 pub struct Shelf<N: Notation> {
     notation: N,
-    places: [Place; PLACES],
+    places: [Option<Pattern>; PLACES],
 }
 
 impl<N: Notation> Shelf<N> {
     // A shelf with nothing at any place.
     pub fn new(notation: N) -> Shelf<N>
-        ensures all_bare { result.places ≡ replicate 10 Bare }
+        ensures all_bare { result.places ≡ replicate 10 None }
         ensures takes_notation { result.notation ≡ notation }
     {
         Shelf {
             notation,
-            places: [Place::Bare; PLACES],
+            places: [None; PLACES],
         }
+    }
+
+    // The pattern at a place.
+    fn pattern_at(&self, place: usize) -> Result<&Pattern, Refusal>
+        ensures pattern_or_refusal { MatchResult result (λ p. standing self.now.places place ≡ Ok (syntax p.now)) (λ f. standing self.now.places place ≡ Err f) }
+        ensures one_of_ten { OnOk result (place < 10) }
+    {
+        let held = self.places.get(place).ok_or(Refusal::NoSuchPlace)?;
+        held.as_ref().ok_or(Refusal::PlaceBare)
     }
 
     // Files a pattern at a bare place, and answers how many tests and tags it has.
@@ -49,28 +55,24 @@ impl<N: Notation> Shelf<N> {
     {
         match self.places.get(place) {
             None => return Err(Refusal::NoSuchPlace),
-            Some(Place::Filed(_)) => return Err(Refusal::PlaceTaken),
-            Some(Place::Bare) => {}
+            Some(Some(_)) => return Err(Refusal::PlaceTaken),
+            Some(None) => {}
         }
         let pattern = Pattern::read(&mut self.notation, bytes)?;
         let counts = (pattern.tests(), pattern.tags());
-        self.places[place] = Place::Filed(pattern);
+        self.places[place] = Some(pattern);
         Ok(counts)
     }
 
     // Takes the pattern at a place away.
     pub fn withdraw(&mut self, place: usize) -> Result<(), Refusal>
         ensures done_or_refusal { result ≡ withdrawing self.old.places place }
-        ensures only_that_place_is_bared { self.new.places ≡ (if is_ok result then slice_set self.old.places place Bare else self.old.places) }
+        ensures only_that_place_is_bared { self.new.places ≡ (if is_ok result then slice_set self.old.places place None else self.old.places) }
         ensures nothing_stands_there { held_at self.new.places place ≡ None }
         ensures keeps_notation { self.new.notation ≡ self.old.notation }
     {
-        match self.places.get(place) {
-            None => return Err(Refusal::NoSuchPlace),
-            Some(Place::Bare) => return Err(Refusal::PlaceBare),
-            Some(Place::Filed(_)) => {}
-        }
-        self.places[place] = Place::Bare;
+        self.pattern_at(place)?;
+        self.places[place] = None;
         Ok(())
     }
 }

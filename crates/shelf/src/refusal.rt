@@ -1,12 +1,14 @@
 // Why a call on the shelf is turned down.
-ghost use Rattle.std.specs.Prelude.{◌≡◌};
-ghost use Rattle.shelf.specs.Refusals.{refusal_number, refusal_offset, refusal_cause};
+ghost use Rattle.std.specs.Prelude.{◌≡◌, Some};
+ghost use Rattle.shelf.specs.Refusals.{refusal_number, refusal_words, refusal_offset, refusal_cause};
 ghost use Rattle.shelf.specs.declared.refusal.Refusal.TheVariants.{Unlawful};
 
 use alphabet::Cause;
 use pattern::fault::Fault;
+use std::error::Error;
+use std::fmt;
 
-#[derive(Clone, Copy, PartialEq, Debug)]
+#[derive(Clone, Copy, PartialEq, Eq, Debug)]
 pub enum Refusal {
     NoSuchPlace,
     PlaceTaken,
@@ -25,6 +27,16 @@ impl From<Fault> for Refusal {
     }
 }
 
+impl fmt::Display for Refusal {
+    ghost output = { λ refusal. Some (refusal_words refusal) };
+
+    fn fmt<W: fmt::Write>(&self, f: &mut fmt::Formatter<W>) -> fmt::Result {
+        f.write_str(self.words())
+    }
+}
+
+impl Error for Refusal {}
+
 impl Refusal {
     // The number under which a refusal is reported.
     pub fn number(self) -> u8
@@ -38,6 +50,21 @@ impl Refusal {
             Refusal::LineTooLong => 12,
             Refusal::BufferTooShort => 13,
             Refusal::NoMatch => 15,
+        }
+    }
+
+    // What is wrong, for one who has no manual at hand.
+    pub fn words(self) -> &'static str
+        ensures { result.now ≡ refusal_words self }
+    {
+        match self {
+            Refusal::NoSuchPlace => "no such place",
+            Refusal::PlaceTaken => "the place is taken",
+            Refusal::PlaceBare => "the place has no pattern",
+            Refusal::Unlawful(fault) => fault.words(),
+            Refusal::LineTooLong => "a line of more than 160 symbols",
+            Refusal::BufferTooShort => "the buffer is too short",
+            Refusal::NoMatch => "nothing reads",
         }
     }
 

@@ -1,49 +1,44 @@
--- A loop over the positions of a set, from the lowest on: `whole` is the set, and `rest` what is left of it.
-use Rattle.std.proofs.Common.{◌≡◌, ℕ, ◌-◌, ◌^◌, ◌<◌, ◌⊎◌, inl, inr, arith}
-use lib.Bits.{bit_and, and_le_r}
-use lib.Count.{count_trailing_zeros}
+-- A loop over the positions of a set, from the lowest up: `whole` is the set, and `rest` what is left of it.
+use Rattle.std.proofs.Common.{◌≡◌, ℕ, ◌<◌, ◌⊎◌, sym, subst, inl, inr, arith}
 use Rattle.automaton.specs.Bit.{In}
-use Rattle.automaton.proofs.Bits.{in_and, low_in, low_below, rest_in, rest_above, asked}
+use Rattle.automaton.specs.PositionSets.{Lowest}
+use Rattle.automaton.proofs.Bits.{asked, in_zero}
 
 -- what is left is part of the set, and what is done is lower
 pub record Left (whole rest : ℕ) : Type 0 where
-  pub small : rest < 2 ^ 64
   pub part : (p : ℕ) → In rest p → In whole p
   pub rising : (p r : ℕ) → In whole p → (In rest p → ⊥) → In rest r → p < r
 
-pub all_left : (whole : ℕ) → whole < 2 ^ 64 → Left whole whole
-all_left whole h = record { small = h; part = λ p e. e; rising = λ p r e f _. absurd (f e) }
+pub all_left : {whole rest : ℕ} → rest ≡ whole → Left whole rest
+all_left e = record { part = λ p i. subst (λ s. In s p) e i; rising = λ p r i f _. absurd (f (subst (λ s. In s p) (sym e) i)) }
 
-module _ (whole rest : ℕ) (l : Left whole rest) (pos : 0 < rest) where
-  pub lowest_in : In whole (count_trailing_zeros 64 rest)
-  lowest_in = l.part (count_trailing_zeros 64 rest) (low_in rest pos l.small)
+pub none_left : {rest p : ℕ} → rest ≡ 0 → In rest p → ⊥
+none_left {p = p} z i = in_zero (subst (λ s. In s p) z i)
 
-  pub lowest_left : In rest (count_trailing_zeros 64 rest)
-  lowest_left = low_in rest pos l.small
+-- one turn more, which gives p and leaves `after`
+module _ {whole rest p after : ℕ} (l : Left whole rest) (n : Lowest rest p after) where
+  pub given : In whole p
+  given = l.part p n.one
 
-  pub lowest_below : count_trailing_zeros 64 rest < 64
-  lowest_below = low_below rest pos l.small
+  pub given_done : In after p → ⊥
+  given_done e = let h = n.above p e in omega arith
 
-  -- what is done after one turn more: the lowest, or what was done before
-  pub done_more : (p : ℕ) → In whole p → (In (bit_and rest (rest - 1)) p → ⊥) → (p ≡ count_trailing_zeros 64 rest) ⊎ (In rest p → ⊥)
-  done_more p e f = elim (asked rest p) [
-    | inl r ↦ elim (rest_in rest p pos l.small r) [ inl s ↦ inl s | inr t ↦ absurd (f t) ]
-    | inr n ↦ inr n
+  -- what is done now: p, or what was done before
+  pub done_more : (q : ℕ) → In whole q → (In after q → ⊥) → (q ≡ p) ⊎ (In rest q → ⊥)
+  done_more q e f = elim (asked rest q) [
+    | inl r ↦ elim (n.each q r) [ inl s ↦ inl s | inr t ↦ absurd (f t) ]
+    | inr d ↦ inr d
   ]
 
   -- what was done before
-  pub done_still : (p : ℕ) → (In rest p → ⊥) → In (bit_and rest (rest - 1)) p → ⊥
-  done_still p f e = f (in_and {x = rest} {y = rest - 1} e).0
+  pub done_still : (q : ℕ) → (In rest q → ⊥) → In after q → ⊥
+  done_still q f e = f (n.others q e)
 
-  pub lowest_done : In (bit_and rest (rest - 1)) (count_trailing_zeros 64 rest) → ⊥
-  lowest_done e = let h = rest_above rest (count_trailing_zeros 64 rest) pos l.small e in omega (arith, h)
-
-  pub left_next : Left whole (bit_and rest (rest - 1))
+  pub left_next : Left whole after
   left_next = record {
-    small = omega (arith, and_le_r rest (rest - 1), l.small);
-    part = λ p e. l.part p (in_and {x = rest} {y = rest - 1} e).0;
-    rising = λ p r e f g. elim (done_more p e f) [
-      | inl s ↦ (let h = rest_above rest r pos l.small g in omega (arith, s, h))
-      | inr n ↦ l.rising p r e n (in_and {x = rest} {y = rest - 1} g).0
+    part = λ q e. l.part q (n.others q e);
+    rising = λ q r e f g. elim (done_more q e f) [
+      | inl s ↦ (let h = n.above r g in omega arith)
+      | inr d ↦ l.rising q r e d (n.others r g)
     ];
   }

@@ -1,8 +1,8 @@
 -- The fronts of trails, as the sweep goes over the symbols. A list of positions has the newest first here.
-use Rattle.std.proofs.Common.{◌≡◌, ℕ, zero, suc, ◌+◌, ◌<◌, min, Bool, true, false, ◌&&◌, ltb, ◌⊎◌, List, [], ◌∷◌, length, get_or, Ordering, Less, Equal}
+use Rattle.std.proofs.Common.{◌≡◌, ℕ, zero, suc, ◌<◌, min, Bool, true, false, ◌&&◌, ltb, ◌⊎◌, List, [], ◌∷◌, length, get_or, Ordering, Less, Equal}
 use Rattle.automaton.specs.declared.machine.Automaton.{Automaton}
 use Rattle.automaton.specs.Bit.{In}
-use Rattle.splitting.specs.Steps.{back_from}
+use Rattle.splitting.specs.Steps.{back_from, rank_back}
 
 -- whether a position may stand at a place of the stretch: it has a code, and its test admits the symbol
 abbrev pub may_stand : {S : Type 0} → (ℕ → S → Bool) → ℕ → List S → ℕ → ℕ → Bool
@@ -31,11 +31,6 @@ pub record Full (a : Automaton) (may : ℕ → ℕ → Bool) (symbols : ℕ) (w 
   pub front : Front a may w
   pub ends : Ends a w
 
--- the start stepped once for each position, from the oldest on
-abbrev pub rank : {M : Type 0} → M → (M → ℕ → M) → List ℕ → List ℕ → M
-rank start stepped tags [] = start
-rank start stepped tags (q ∷ w) = stepped (rank start stepped tags w) (get_or tags q 0)
-
 -- the tie order: at the first difference from the newest position back the smaller position comes first
 abbrev pub Earlier : List ℕ → List ℕ → Type 0
 Earlier [] v = ⊥
@@ -49,15 +44,15 @@ pub data Rules {M : Type 0} (compared : M → M → Ordering) (rank : List ℕ �
   earlier : compared (rank v) (rank w) ≡ Equal → Earlier w v → Rules compared rank w v
 
 module _ {M : Type 0} (start : M) (stepped : M → ℕ → M) (compared : M → M → Ordering) (a : Automaton) (tags : List ℕ) (may : ℕ → ℕ → Bool) where
-  -- q after u is the best front that ends in q at the symbol i
-  pub record Leads (i q : ℕ) (u : List ℕ) : Type 0 where
-    pub front : Front a may (q ∷ u)
-    pub long : length u ≡ i
-    pub best : (v : List ℕ) → length v ≡ i → Front a may (q ∷ v) → Rules compared (rank start stepped tags) (q ∷ u) (q ∷ v)
+  -- w is the best front of n symbols that ends in q
+  pub record Leads (n q : ℕ) (w : List ℕ) : Type 0 where
+    pub front : Front a may w
+    pub best : (v : List ℕ) → length (q ∷ v) ≡ n → Front a may (q ∷ v) → Rules compared (rank_back start stepped tags) w (q ∷ v)
 
-  -- what is known at the symbol i, with the measures from `from` on: each live position has its best front in the table, and the
-  -- measure of that; every front ends in a live position
-  pub record Cells (i live from : ℕ) (work : List M) (back : List (List ℕ)) : Type 0 where
-    pub leads : (q : ℕ) → In live q → Leads i q (back_from back i (get_or (get_or back i []) q 0))
-    pub measure : (q : ℕ) → In live q → get_or work (from + q) start ≡ rank start stepped tags (q ∷ back_from back i (get_or (get_or back i []) q 0))
-    pub complete : (q : ℕ) (v : List ℕ) → length v ≡ i → Front a may (q ∷ v) → In live q
+  -- what is known after n symbols: each live position has its best front in the table, and the measure of that; every front ends in a
+  -- live position
+  pub record Cells (n live : ℕ) (measures : List M) (back : List (List ℕ)) : Type 0 where
+    pub low : (q : ℕ) → In live q → q < 64
+    pub leads : (q : ℕ) → In live q → Leads n q (back_from back n q)
+    pub measure : (q : ℕ) → In live q → get_or measures q start ≡ rank_back start stepped tags (back_from back n q)
+    pub complete : (q : ℕ) (v : List ℕ) → length (q ∷ v) ≡ n → Front a may (q ∷ v) → In live q

@@ -2,7 +2,9 @@ mod BitLoops
 mod Choosing
 mod Following
 mod Fronts
+mod Nearness
 mod Offering
 mod Optimal
 mod Reading
+mod Tables
 mod Whole

@@ -1,17 +1,14 @@
 -- A list of positions with the newest first, and the same from the first symbol on.
-use Rattle.std.proofs.Common.{◌≡◌, ℕ, zero, suc, ◌-◌, ◌<◌, min, Bool, true, false, ◌&&◌, ltb, List, [], ◌∷◌, reverse, length, get_or, Ordering, sym, refl, ap, ◌∙◌, inl, inr, arith, ltb-true}
+use Rattle.std.proofs.Common.{◌≡◌, ℕ, zero, suc, ◌-◌, ◌<◌, min, Bool, true, ◌&&◌, ltb, List, [], ◌∷◌, reverse, length, get_or, Ordering, sym, refl, ap, ◌∙◌, inl, inr, arith, ltb-true}
 use mathlib.Core.List.{reverse_aux}
 use Rattle.std.proofs.lemmas.List.{length-reverse, get_or-reverse}
-use Rattle.std.proofs.lemmas.Bool.{lt-ltb}
+use Rattle.std.proofs.lemmas.Bool.{and_parts, lt-ltb}
 use Rattle.automaton.specs.declared.machine.Automaton.{Automaton}
 use Rattle.automaton.specs.Reads.{Path, Walk}
 use Rattle.ranking.specs.Ranks.{rank_of}
+use Rattle.splitting.specs.Steps.{rank_back}
 use Rattle.splitting.specs.Trails.{Admitted, Trail, sets_along, Before, Over}
-use Rattle.splitting.proofs.Fronts.{may_stand, Front, Ends, Full, rank, Earlier, Rules}
-
-both : (b d : Bool) → b && d ≡ true → (b ≡ true) × (d ≡ true)
-both true d e = (refl, e)
-both false d e = let z : ◌≡◌ {A = ℕ} 0 1 = cc in absurd (omega arith)
+use Rattle.splitting.proofs.Fronts.{may_stand, Front, Ends, Full, Earlier, Rules}
 
 -- the positions of a list may stand at the places from k on
 abbrev StandFrom : (ℕ → ℕ → Bool) → ℕ → List ℕ → Type 0
@@ -46,7 +43,7 @@ module _ {S : Type 0} (admits : ℕ → S → Bool) (codes : ℕ) where
   by_symbols [] (q ∷ t) e x = absurd (omega (arith, e))
   by_symbols (s ∷ stretch) [] e x = absurd (omega (arith, e))
   by_symbols (s ∷ stretch) (q ∷ t) e x =
-      let b = both (ltb q (min 64 codes)) (admits q s) x.1 in
+      let b = and_parts (ltb q (min 64 codes)) (admits q s) x.1 in
       let h : q < min 64 codes = ltb-true q (min 64 codes) b.0 in
       (x.0, omega (arith, h), b.1, by_symbols stretch t (omega (arith, e)) (down s stretch 0 t x.2))
 
@@ -85,11 +82,11 @@ module _ {S : Type 0} (a : Automaton) (admits : ℕ → S → Bool) (codes : ℕ
       record { whole = length-reverse t ∙ length_of admits codes stretch t f.admitted; front = x.0; ends = x.1 }
 
 module _ {M : Type 0} (start : M) (stepped : M → ℕ → M) (tags : List ℕ) where
-  rank_aux : (w t : List ℕ) → rank_of start stepped (sets_along tags (reverse_aux w t)) ≡ rank_of (rank start stepped tags w) stepped (sets_along tags t)
+  rank_aux : (w t : List ℕ) → rank_of start stepped (sets_along tags (reverse_aux w t)) ≡ rank_of (rank_back start stepped tags w) stepped (sets_along tags t)
   rank_aux [] t = refl
   rank_aux (q ∷ w) t = rank_aux w (q ∷ t)
 
-  rank_read : (w : List ℕ) → rank_of start stepped (sets_along tags (reverse w)) ≡ rank start stepped tags w
+  rank_read : (w : List ℕ) → rank_of start stepped (sets_along tags (reverse w)) ≡ rank_back start stepped tags w
   rank_read w = rank_aux w []
 
 record First (w v : List ℕ) : Type 0 where
@@ -133,12 +130,12 @@ before_read w v e x =
     }
 
 module _ {M : Type 0} (start : M) (stepped : M → ℕ → M) (compared : M → M → Ordering) (tags : List ℕ) where
-  ranks : (w v : List ℕ) → compared (rank_of start stepped (sets_along tags (reverse v))) (rank_of start stepped (sets_along tags (reverse w))) ≡ compared (rank start stepped tags v) (rank start stepped tags w)
+  ranks : (w v : List ℕ) → compared (rank_of start stepped (sets_along tags (reverse v))) (rank_of start stepped (sets_along tags (reverse w))) ≡ compared (rank_back start stepped tags v) (rank_back start stepped tags w)
   ranks w v =
       ap (λ m. compared m (rank_of start stepped (sets_along tags (reverse w)))) (rank_read start stepped tags v)
-      ∙ ap (compared (rank start stepped tags v)) (rank_read start stepped tags w)
+      ∙ ap (compared (rank_back start stepped tags v)) (rank_read start stepped tags w)
 
-  pub over_read : (w v : List ℕ) → length w ≡ length v → Rules compared (rank start stepped tags) w v → Over start stepped compared tags (reverse w) (reverse v)
+  pub over_read : (w v : List ℕ) → length w ≡ length v → Rules compared (rank_back start stepped tags) w v → Over start stepped compared tags (reverse w) (reverse v)
   over_read w v e (Rules.same x) = Over.same (ap reverse x)
   over_read w v e (Rules.higher x) = Over.higher (ranks w v ∙ x)
   over_read w v e (Rules.earlier x y) = Over.earlier (ranks w v ∙ x) (before_read w v e y)

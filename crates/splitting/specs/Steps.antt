@@ -1,5 +1,5 @@
 -- What the functions of the sweep do, where m has the measure of each position at the symbol before.
-use Rattle.std.specs.Prelude.{◌≡◌, ℕ, zero, suc, ◌+◌, ◌<◌, cond, List, [], ◌∷◌, slice_index, slice_index_or}
+use Rattle.std.specs.Prelude.{◌≡◌, ℕ, zero, suc, ◌<◌, cond, List, [], ◌∷◌, slice_index, slice_index_or}
 use Rattle.std.specs.declared.cmp.Ordering.{Ordering}
 use Rattle.std.specs.Ordering.{is_gt}
 use Rattle.automaton.specs.Bit.{In}
@@ -21,9 +21,9 @@ pub record Preceded {M : Type 0} (compared : M → M → Ordering) (m : ℕ → 
   pub low : (q : ℕ) → slice_index previous q < 64
 
 -- the measure of each position that is reached is that of the one before it, with one step more
-abbrev pub Stepped : {M : Type 0} → M → (M → ℕ → M) → List ℕ → ℕ → List ℕ → ℕ → ℕ → List M → List M → Type 0
-Stepped start stepped tags positions previous from to before after =
-    (q : ℕ) → In positions q → slice_index_or after (to + q) start ≡ stepped (slice_index_or before (from + slice_index previous q) start) (slice_index tags q)
+abbrev pub Stepped : {M : Type 0} → M → (M → ℕ → M) → List ℕ → ℕ → List ℕ → List M → List M → Type 0
+Stepped start stepped tags positions previous before after =
+    (q : ℕ) → In positions q → slice_index_or after q start ≡ stepped (slice_index_or before (slice_index previous q) start) (slice_index tags q)
 
 -- the table of positions before has only positions
 abbrev pub Low : List (List ℕ) → Type 0
@@ -33,3 +33,8 @@ Low back = (i q : ℕ) → slice_index (slice_index_or back i []) q < 64
 abbrev pub back_from : List (List ℕ) → ℕ → ℕ → List ℕ
 back_from back zero q = []
 back_from back (suc n) q = q ∷ back_from back n (slice_index (slice_index_or back n []) q)
+
+-- the start stepped once for each position of a list that has the newest first, from the oldest on
+abbrev pub rank_back : {M : Type 0} → M → (M → ℕ → M) → List ℕ → List ℕ → M
+rank_back start stepped tags [] = start
+rank_back start stepped tags (q ∷ w) = stepped (rank_back start stepped tags w) (slice_index tags q)

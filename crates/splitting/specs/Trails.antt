@@ -1,11 +1,13 @@
 -- The trails of a stretch of symbols, and which of them is best. A trail is a list of positions of an automaton, one for each symbol,
 -- from the first symbol to the last.
-use Rattle.std.specs.Prelude.{◌≡◌, ℕ, ◌+◌, ◌<◌, ◌≤◌, Bool, true, false, List, [], ◌∷◌, map, length, take, drop, Some, None, Option, slice_index, slice_index_or}
+use Rattle.std.specs.Prelude.{◌≡◌, ℕ, ◌+◌, ◌<◌, ◌≤◌, Bool, true, List, [], ◌∷◌, map, length, take, drop, Ok, Err, Result, slice_index, slice_index_or}
 use Rattle.std.specs.declared.cmp.Ordering.TheVariants.{Less, Equal}
 use Rattle.std.specs.declared.cmp.Ordering.{Ordering}
 use Rattle.automaton.specs.declared.machine.Automaton.{Automaton}
 use Rattle.automaton.specs.Reads.{Walk}
 use Rattle.ranking.specs.Ranks.{rank_of}
+use Rattle.splitting.specs.declared.Unsplit.{Unsplit}
+use Rattle.splitting.specs.declared.Unsplit.TheVariants.{NoRoom, NoTrail}
 
 -- there is one position for each symbol; it is below 64, it has one of the codes, of which there are so many, and its test admits the
 -- symbol
@@ -54,8 +56,8 @@ module _ {S M : Type 0} (start : M) (stepped : M → ℕ → M) (compared : M �
     pub front : take (length stretch) after ≡ test_numbers positions
     pub rest : drop (length stretch) after ≡ drop (length stretch) before
 
-  -- what is answered: nothing where there is no room, else whether there is a trail, and then the best one is written
-  abbrev pub BestTrail : ℕ → List ℕ → List ℕ → Option Bool → Type 0
-  BestTrail measures before after None = (Room (length stretch) (length before) measures → ⊥) × (after ≡ before)
-  BestTrail measures before after (Some true) = Room (length stretch) (length before) measures × Written before after
-  BestTrail measures before after (Some false) = Room (length stretch) (length before) measures × ((t : List ℕ) → Trail a admits codes stretch t → ⊥) × (after ≡ before)
+  -- what is answered: that there is no room, or else that there is no trail, or else the best one is written
+  abbrev pub BestTrail : ℕ → List ℕ → List ℕ → Result (Unit {0}) Unsplit → Type 0
+  BestTrail measures before after (Err NoRoom) = (Room (length stretch) (length before) measures → ⊥) × (after ≡ before)
+  BestTrail measures before after (Ok _) = Room (length stretch) (length before) measures × Written before after
+  BestTrail measures before after (Err NoTrail) = Room (length stretch) (length before) measures × ((t : List ℕ) → Trail a admits codes stretch t → ⊥) × (after ≡ before)

@@ -9,18 +9,23 @@ ghost use Rattle.splitting.specs.Trails.{BestTrail};
 
 use alphabet::Alphabet;
 use asking::row;
-use automaton::Automaton;
+use automaton::{Automaton, MOST_SYMBOLS, POSITIONS};
 use ranking::Ranking;
+use std::mem::swap;
 
 mod sweep;
 
-use sweep::{Reached, advance, begin, choose, half, walk_back};
+use sweep::{Fronts, Reached, begin, walk_back};
 
-// A stretch has at most so many symbols.
-const MOST_SYMBOLS: usize = 160;
-
-// An automaton has at most so many positions.
-const POSITIONS: usize = 64;
+/// Why no trail is written.
+#[derive(Clone, Copy, Debug, PartialEq, Eq)]
+pub enum Unsplit {
+    /// The stretch has more than 160 symbols, the bytes for the trail are fewer than the symbols, or the work has fewer than 128
+    /// measures.
+    NoRoom,
+    /// The stretch has no trail.
+    NoTrail,
+}
 
 /// The best trail of a stretch: the one that ranks highest, and of several the first in the tie order, in which of two trails the one
 /// with the smaller position comes first, at the last symbol at which they differ.
@@ -28,51 +33,70 @@ const POSITIONS: usize = 64;
 /// `codes` has the alphabet's number of the test of each position, and `tags` the set of the tags that each position belongs to, bit
 /// k - 1 for tag k. `work` is room for 128 measures; what it holds does not matter, before or after.
 ///
-/// With `Some(true)` the trail stands at the front of `trail`, as the numbers of the tests, each one more than its position; what
-/// stands behind is as it was. `Some(false)` says that there is no trail. `None` says that the stretch has more than 160 symbols, that
-/// `trail` is shorter than the stretch, or that `work` has fewer than 128 measures. Neither changes `trail`.
+/// With `Ok` the trail stands at the front of `trail`, as the numbers of the tests, each one more than its position; what stands
+/// behind is as it was. An `Err` leaves `trail` as it was.
 pub fn best_trail<A: Alphabet, R: Ranking>(
     alphabet: &A,
     codes: &[u32],
     automaton: &Automaton,
-    tags: &[u8; 64],
+    tags: &[u8; POSITIONS],
     stretch: &[A::Symbol],
     ranking: &R,
     work: &mut [R::Measure],
     trail: &mut [u8],
-) -> Option<bool>
+) -> Result<(), Unsplit>
     ensures { BestTrail (R.Ranking.start ranking.now) (R.Ranking.stepped ranking.now) (R.Ranking.compared ranking.now) automaton.now (λ q s. A.Alphabet.meaning alphabet.now (slice_index codes.now q) s) (length codes.now) tags.now stretch.now (length work.old) trail.old trail.new result }
 {
     let symbols = stretch.len();
     if symbols > MOST_SYMBOLS || trail.len() < symbols || work.len() < 2 * POSITIONS {
-        return None;
+        return Err(Unsplit::NoRoom);
     }
     if symbols == 0 {
-        return Some(automaton.nullable);
+        return if automaton.nullable {
+            Ok(())
+        } else {
+            Err(Unsplit::NoTrail)
+        };
     }
+    let (mut measures, mut spare) = work.split_at_mut(POSITIONS);
     let mut back = [[0; POSITIONS]; MOST_SYMBOLS];
     let mut live = 0;
     for (i, symbol) in stretch.iter().enumerate() {
         let row = row(alphabet, codes, symbol);
         if i == 0 {
             live = automaton.first & row;
-            begin(ranking, tags, live, work);
+            begin(ranking, tags, live, measures);
         } else {
+            let fronts = Fronts {
+                ranking,
+                tags,
+                symbols: i,
+                back: &back,
+                live,
+                measures,
+            };
             let Reached {
                 positions,
                 previous,
-            } = advance(automaton, tags, ranking, live, row, i, work);
+            } = fronts.advance(automaton, row, spare);
             live = positions;
             back[i] = previous;
+            swap(&mut measures, &mut spare);
         }
     }
-    match choose(ranking, work, half(symbols - 1), live & automaton.last) {
-        Some(last) => {
-            walk_back(&back, last as u8, symbols, trail);
-            Some(true)
-        }
-        None => Some(false),
-    }
+    let fronts = Fronts {
+        ranking,
+        tags,
+        symbols,
+        back: &back,
+        live,
+        measures,
+    };
+    let Some(last) = fronts.best_in(automaton.last) else {
+        return Err(Unsplit::NoTrail);
+    };
+    walk_back(&back, last as u8, &mut trail[..symbols]);
+    Ok(())
 }
 
 #[cfg(test)]
@@ -92,7 +116,7 @@ mod tests {
         tags: &[u8; 64],
         stretch: &[u8],
         trail: &mut [u8],
-    ) -> Option<bool> {
+    ) -> Result<(), Unsplit> {
         let mut work = [0; 128];
         best_trail(
             &Letters::new(),
@@ -122,7 +146,7 @@ mod tests {
         let mut trail = [9; 4];
         assert_eq!(rt;
             by_extent(&automaton, &[ANY; 3], &tags, b"xy", &mut trail),
-            Some(true)
+            Ok(())
         );
         assert_eq!(rt; trail, [2, 3, 9, 9]);
     }
@@ -139,7 +163,7 @@ mod tests {
         let mut trail = [9; 4];
         assert_eq!(rt;
             by_extent(&automaton, &[A, ANY], &[1; 64], b"aab", &mut trail),
-            Some(true)
+            Ok(())
         );
         assert_eq!(rt; trail, [1, 1, 2, 9]);
     }
@@ -155,11 +179,11 @@ mod tests {
         let mut trail = [9; 4];
         assert_eq!(rt;
             by_extent(&automaton, &[A, ANY], &[1; 64], b"ab", &mut trail),
-            Some(false)
+            Err(Unsplit::NoTrail)
         );
         assert_eq!(rt;
             by_extent(&automaton, &[A, ANY], &[1; 64], b"", &mut trail),
-            Some(true)
+            Ok(())
         );
         assert_eq!(rt; trail, [9; 4]);
     }
@@ -181,7 +205,7 @@ mod tests {
         let mut trail = [9; 2];
         assert_eq!(rt;
             by_extent(&automaton, &codes, &tags, b"xy", &mut trail),
-            Some(true)
+            Ok(())
         );
         assert_eq!(rt; trail, [1, 3]);
         let mut work = [[0; 8]; 128];
@@ -189,7 +213,7 @@ mod tests {
         let answer = best_trail(
             &letters, &codes, &automaton, &tags, b"xy", &TagOrder, &mut work, &mut trail,
         );
-        assert_eq!(rt; answer, Some(true));
+        assert_eq!(rt; answer, Ok(()));
         assert_eq!(rt; trail, [2, 3]);
     }
 
@@ -204,15 +228,15 @@ mod tests {
         let mut trail = [9; 161];
         assert_eq!(rt;
             by_extent(&automaton, &[ANY], &[0; 64], &[b'x'; 161], &mut trail),
-            None
+            Err(Unsplit::NoRoom)
         );
         assert_eq!(rt;
             by_extent(&automaton, &[ANY], &[0; 64], &[b'x'; 160], &mut trail),
-            Some(true)
+            Ok(())
         );
         assert_eq!(rt;
             by_extent(&automaton, &[ANY], &[0; 64], b"xy", &mut [9; 1]),
-            None
+            Err(Unsplit::NoRoom)
         );
         let letters = Letters::new();
         assert_eq!(rt;
@@ -226,7 +250,7 @@ mod tests {
                 &mut [0; 127],
                 &mut trail,
             ),
-            None
+            Err(Unsplit::NoRoom)
         );
         assert!(rt; trail[159] == 1);
         assert!(rt; trail[160] == 9);

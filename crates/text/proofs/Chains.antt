@@ -1,6 +1,7 @@
 -- One text after another.
-use Rattle.std.proofs.Common.{◌≡◌, ℕ, ◌+◌, ◌<◌, ◌≤◌, List, [], ◌∷◌, ◌++◌, length, get_or, take, sym, ap, ◌∙◌, subst, append_assoc, append-nil, arith, length-take}
+use Rattle.std.proofs.Common.{◌≡◌, ℕ, ◌+◌, ◌<◌, ◌≤◌, List, [], ◌∷◌, ◌++◌, length, get_or, take, sym, ap, ◌∙◌, arith, subst, append-nil}
 use Rattle.std.proofs.lemmas.List.{take_more, take_all}
+use Rattle.std.proofs.lemmas.Grind.{common_steps}
 use Rattle.text.specs.declared.buffer.Text.{Text}
 use Rattle.text.specs.Texts.{Adds, written}
 use Rattle.text.proofs.Takes.{take_twice}
@@ -8,13 +9,10 @@ use Rattle.text.proofs.Takes.{take_twice}
 infixr 5 ◌then◌
 pub ◌then◌ : {t u v : Text} {a b : List ℕ} → Adds t a u → Adds u b v → Adds t (a ++ b) v
 ◌then◌ {t} {u} {v} {a} {b} p q =
-    record { bytes = q.bytes ∙ ap (λ l. take 4096 (l ++ b)) p.bytes ∙ take_twice 4096 (written t ++ a) b ∙ ap (take 4096) (append_assoc (written t) a b) }
-
-pub length_written_le : (t : Text) → length (written t) ≤ 4096
-length_written_le t = omega (arith, length-take t.len t.bytes, t.within)
+    record { bytes = grind (arith, common_steps, take_twice 4096 (written t ++ a) b) }
 
 pub nothing : (t : Text) → Adds t [] t
-nothing t = record { bytes = sym (ap (take 4096) (append-nil (written t)) ∙ take_all 4096 (written t) (length_written_le t)) }
+nothing t = record { bytes = sym (ap (take 4096) (append-nil (written t)) ∙ take_all 4096 (written t) t.within) }
 
 -- the same text, written otherwise
 pub read_as : {t u : Text} {a b : List ℕ} → a ≡ b → Adds t a u → Adds t b u

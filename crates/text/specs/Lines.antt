@@ -3,7 +3,7 @@ use Rattle.std.specs.Prelude.{◌≡◌, ℕ, ◌+◌, Bool, true, false, cond, 
 use Rattle.text.specs.declared.line.LineBuffer.{LineBuffer}
 
 abbrev pub held : {most : ℕ} → LineBuffer most → List ℕ
-held b = take b.len b.bytes
+held b = b.bytes.items
 
 -- the bytes before the first line feed
 abbrev pub front : List ℕ → List ℕ

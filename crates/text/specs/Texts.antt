@@ -3,7 +3,7 @@ use Rattle.std.specs.Prelude.{◌≡◌, ℕ, List, ◌++◌, take}
 use Rattle.text.specs.declared.buffer.Text.{Text}
 
 abbrev pub written : Text → List ℕ
-written t = take t.len t.bytes
+written t = t.bytes.items
 
 -- after holds what before holds and then bs, as much of it as there is room for
 pub record Adds (before : Text) (bs : List ℕ) (after : Text) : Type 0 where

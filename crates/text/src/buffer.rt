@@ -1,13 +1,69 @@
-// A text that is written byte by byte, with room for so many bytes. What does not fit is left off.
+// A text that is written piece by piece, with room for so many bytes. What does not fit is left off.
 ghost use Rattle.std.specs.Prelude.{◌≤◌};
+ghost use Rattle.arrayvec.specs.ArrayVec.{array_vec_len};
 
-mod writing;
+use crate::appending::append;
+use arrayvec::ArrayVec;
 
 pub const ROOM: usize = 4096;
 
 #[derive(Drop)]
 pub struct Text {
-    bytes: [u8; ROOM],
-    len: usize,
-    ghost within: { len ≤ 4096 },
+    bytes: ArrayVec<u8, ROOM>,
+    ghost within: { array_vec_len bytes ≤ 4096 },
+}
+
+impl Text {
+    ghost use Rattle.std.specs.Prelude.{◌≡◌, [], ◌∷◌, replicate, decimal};
+    ghost use Rattle.text.specs.Texts.{written, Adds};
+
+    pub fn new() -> Text
+        ensures { written result ≡ [] }
+    {
+        Text {
+            bytes: ArrayVec::new(),
+        }
+    }
+
+    pub fn clear(&mut self)
+        ensures { written self.new ≡ [] }
+    {
+        self.bytes.clear();
+    }
+
+    // What was written.
+    pub fn bytes(&self) -> &[u8]
+        ensures { result.now ≡ written self.now }
+    {
+        self.bytes.as_slice()
+    }
+
+    pub fn byte(&mut self, byte: u8)
+        ensures { Adds self.old (byte ∷ []) self.new }
+    {
+        append(&mut self.bytes, &[byte]);
+    }
+
+    pub fn text(&mut self, bytes: &[u8])
+        ensures { Adds self.old bytes.now self.new }
+    {
+        append(&mut self.bytes, bytes);
+    }
+
+    // The number in decimal digits.
+    pub fn number(&mut self, n: u64)
+        ensures { Adds self.old (decimal n) self.new }
+    {
+        let mut digits = itoa::Buffer::new();
+        self.text(digits.format(n).as_bytes());
+    }
+
+    // The byte, n times.
+    pub fn repeat(&mut self, byte: u8, n: usize)
+        ensures { Adds self.old (replicate n byte) self.new }
+    {
+        for _ in 0..n {
+            self.byte(byte);
+        }
+    }
 }

@@ -19,11 +19,11 @@ fn written(rt: HostRuntime) {
 #[test]
 fn cut_anywhere(rt: HostRuntime) {
     let mut short: LineBuffer<3> = LineBuffer::new();
-    assert!(rt; short.take_in(b"ab") == (2, false));
-    assert!(rt; short.take_in(b"cd\nef") == (3, true));
+    assert!(rt; short.take_in(b"ab") == None);
+    assert!(rt; short.take_in(b"cd\nef") == Some(3));
     assert!(rt; short.bytes() == b"abc".as_slice());
     let mut long: LineBuffer<201> = LineBuffer::new();
-    assert!(rt; long.take_in(b"abcd\nef") == (5, true));
+    assert!(rt; long.take_in(b"abcd\nef") == Some(5));
     assert!(rt; long.bytes() == b"abcd".as_slice());
     long.clear();
     assert!(rt; long.bytes().is_empty());

@@ -1,13 +1,36 @@
-use Rattle.std.proofs.Common.{ℕ, ◌-◌, ◌*◌, ◌%◌, ◌^◌, ◌≤◌, Bool, get_or, sym, subst, arith, rules}
+use Rattle.std.proofs.Common.{◌≡◌, ℕ, ◌*◌, ◌%◌, ◌^◌, ◌<◌, Bool, List, [], ◌∷◌, ◌++◌, min, length, take, sym, ap, ◌∙◌, subst, arith, rules, append_assoc, length-append, length-take, length-take-le}
 use lib.Bits.{bit_or}
-use Rattle.asking.proofs.Rowing.{RowFrom, row_further}
+use mir.Val.{bool_byte}
+use Rattle.std.specs.List.{push}
+use Rattle.asking.proofs.Rowing.{RowOfCodes, no_codes, code_before, first_codes}
 use Rattle.asking.proofs.row.Goals as goal
 
-pub loop-k-preserved : goal.loop-k-preserved
-loop-k-preserved g c =
-    let p : ℕ → Bool = λ k. g.A.Alphabet.meaning c.args.alphabet.now (get_or c.args.codes.now k 0) c.args.symbol.now in
-    let n = c.min-count.result in
-    let few : c.min-count.result ≤ 64 = search rules in
-    let k = c.loop-k.k in
-    let row = c.loop-k.admitted in
-    subst (λ x. RowFrom p n (k - 1) (bit_or ((row * 2) % 2 ^ 64) x)) (sym c.from.ensures) (row_further p n k row c.admits.result few (omega (arith, c.loop-k-test.true)) c.admits.ensures c.loop-k.invariant)
+pub loop-code-init : goal.loop-code-init
+loop-code-init g c = ([], search rules, no_codes (λ code. g.A.Alphabet.meaning c.args.alphabet.now code c.args.symbol.now))
+
+-- where a code is left, fewer than 64 are done
+fewer : (rest left done codes : List ℕ) (code : ℕ) → rest ≡ push left code → rest ++ done ≡ take (min 64 (length codes)) codes → length done < 64
+fewer rest left done codes code e s = omega (arith, ap length e, length-append left (code ∷ []), ap length s, length-append rest done, length-take (min 64 (length codes)) codes)
+
+-- a code that is taken from the left goes before those that are done
+taken : (rest left done whole : List ℕ) (code : ℕ) → rest ≡ push left code → rest ++ done ≡ whole → left ++ (code ∷ done) ≡ whole
+taken rest left done whole code e s = sym (append_assoc left (code ∷ []) done) ∙ ap (λ r. r ++ done) (sym e) ∙ s
+
+none_left : (rest done whole : List ℕ) → length rest ≡ 0 → rest ++ done ≡ whole → done ≡ whole
+none_left [] done whole e s = s
+none_left (x ∷ rest) done whole e s = absurd (omega arith)
+
+pub loop-code-preserved : goal.loop-code-preserved
+loop-code-preserved g c =
+    let admits : ℕ → Bool = λ code. g.A.Alphabet.meaning c.args.alphabet.now code c.args.symbol.now in
+    let inv = c.loop-code.invariant in
+    let code = c.in-Some.code.now in
+    let few = fewer _ _ inv.0 c.args.codes.now code c.in-Some.ensures.steps inv.1 in
+    (code ∷ inv.0, taken _ _ inv.0 _ code c.in-Some.ensures.steps inv.1, subst (λ b. RowOfCodes admits (code ∷ inv.0) (bit_or ((c.loop-code.admitted * 2) % 2 ^ 64) b)) (sym (c.from.ensures ∙ ap bool_byte c.admits.ensures)) (code_before admits code inv.0 c.loop-code.admitted few inv.2))
+
+pub returns : goal.returns
+returns g c =
+    let admits : ℕ → Bool = λ code. g.A.Alphabet.meaning c.args.alphabet.now code c.args.symbol.now in
+    let inv = c.loop-code.invariant in
+    let all : inv.0 ≡ take (min 64 (length c.args.codes.now)) c.args.codes.now = none_left _ inv.0 _ c.in-None.ensures.steps.0 inv.1 in
+    first_codes admits (min 64 (length c.args.codes.now)) c.args.codes.now c.loop-code.admitted (length-take-le (min 64 (length c.args.codes.now)) c.args.codes.now (search rules)) (subst (λ codes. RowOfCodes admits codes c.loop-code.admitted) all inv.2)

@@ -16,12 +16,12 @@ next p n line i s before after row h e r q is =
     subst (RowsOf p n (take (i + 1) line)) (sym is)
     (subst (λ l. RowsOf p n l (before ++ (row ∷ []))) (sym (take_more line i s h ∙ ap (λ y. take i line ++ (y ∷ [])) (sym e))) (rows_more p n (take i line) before s row r q))
 
-pub loop-i-preserved : goal.loop-i-preserved
-loop-i-preserved g c =
+pub loop-symbol-preserved : goal.loop-symbol-preserved
+loop-symbol-preserved g c =
     let p : ℕ → _ → Bool = λ k s. g.A.Alphabet.meaning c.args.alphabet.now (get_or c.args.codes.now k 0) s in
     let n = min 64 (length c.args.codes.now) in
     let line = c.args.line.now in
-    let i = c.loop-i.i in
-    let before = rows_of c.loop-i.rows in
-    let long : length before < 160 = omega (arith, rows_length p n (take i line) before c.loop-i.invariant, length-take i line, c.loop-i-test.true, c.if-line-gt-MOST_SYMBOLS.false) in
-    next p n line i c.index-line-i.result before (rows_of c.push.new.self) c.row.result c.loop-i-test.true c.index-line-i.is c.loop-i.invariant c.row.ensures (pushed c.push.result before (rows_of c.push.new.self) c.row.result c.push.ensures long)
+    let i = c.loop-symbol.symbol-index in
+    let before = rows_of c.loop-symbol.rows in
+    let long : length before < 160 = omega (arith, rows_length p n (take i line) before c.loop-symbol.invariant, length-take i line, c.loop-symbol-test.true, c.if-line-gt-MOST_SYMBOLS.false) in
+    next p n line i c.symbol-item.result before (rows_of c.push.new.self) c.row.result c.loop-symbol-test.true c.symbol-item.is c.loop-symbol.invariant c.row.ensures (pushed c.push.result before (rows_of c.push.new.self) c.row.result c.push.ensures long)

@@ -2,6 +2,7 @@ ghost use Rattle.std.specs.Prelude.{◌≡◌, ◌≤◌, true, false, [], ◌�
 ghost use Rattle.automaton.specs.RowList.{rows_of};
 
 use super::Rows;
+use crate::MOST_SYMBOLS;
 
 impl Rows {
     /// No rows.
@@ -10,13 +11,14 @@ impl Rows {
         ensures { rows_of result ≡ [] }
     {
         Rows {
-            list: [0; 160],
+            list: [0; MOST_SYMBOLS],
             len: 0,
         }
     }
 
     /// Adds the row of one symbol more. Where there are 160 rows already it says `false`, and adds nothing.
     #[tactic(auto, unfolding(crate::specs::RowList::rows_of))]
+    // A `bool`, since an error type would have one value, which says no more than `false`.
     pub fn push(&mut self, row: u64) -> bool
         ensures { elim result [ true ↦ rows_of self.new ≡ rows_of self.old ++ (row ∷ []) | false ↦ (rows_of self.new ≡ rows_of self.old) × (length (rows_of self.old) ≡ 160) ] }
     {

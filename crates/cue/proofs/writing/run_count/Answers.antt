@@ -1,14 +1,14 @@
-use Rattle.std.proofs.Common.{◌+◌, cond, length, get_or, drop, sym, ap, ◌∙◌, rules}
-use Rattle.std.proofs.lemmas.List.{at_drop_more}
-use Rattle.cue.specs.Marks.{runs_after, runs_of}
-use Rattle.cue.proofs.Scans.{count_step, bool-byte, bool_small}
+use Rattle.std.proofs.Common.{not, eqb, length, rules, tests, sym, ap, ◌∙◌}
+use Rattle.std.proofs.lemmas.Iterator.Consumers.{count_from_yields_List, YieldsList-from_filter, YieldsList-at}
+use Rattle.std.proofs.lemmas.Iterator.Splits.{YieldsList-from_slice_split}
+use Rattle.cue.proofs.Scans.{pieces, runs_of_pieces, runs_counted}
 use Rattle.cue.proofs.writing.run_count.Goals as goal
 
-pub loop-mark-preserved : goal.loop-mark-preserved
-loop-mark-preserved c =
-    let ms = c.args.marks.now in
-    let i = c.loop-mark.mark-index in
-    let inside = c.loop-mark.inside in
-    let before = ap (λ n. c.loop-mark.count + n) (sym (at_drop_more (λ l. length (runs_after 0 (cond inside 1 0) l)) ms i 0 c.loop-mark-test.true)) ∙ c.loop-mark.invariant.0 in
-    let one = c.from-count.ensures ∙ bool-byte _ in
-    (count_step (get_or ms i 0) (drop (i + 1) ms) inside _ _ (length (runs_of ms)) before (ap (λ n. c.loop-mark.count + n) one), search (rules, bool_small))
+pub returns : goal.returns
+returns c =
+    count_from_yields_List c.filter.result _ c.count.ensures.ran
+    (YieldsList-from_filter _ (λ run. not (eqb (length run) 0))
+    (YieldsList-at c.filter.ensures.source (YieldsList-from_slice_split _ (λ mark. eqb mark 0) c.args.marks.now c.split.ensures.rest c.split.ensures.done c.split.ensures.closure (λ x r q k. search (rules, tests))))
+    c.filter.ensures.closure (λ x r q k. search (rules, tests)))
+    ∙ runs_counted 0 (pieces c.args.marks.now)
+    ∙ ap length (sym (runs_of_pieces c.args.marks.now))

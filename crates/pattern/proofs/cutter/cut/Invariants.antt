@@ -1,12 +1,12 @@
-use Rattle.std.proofs.Common.{◌≡◌, ◌-◌, ◌≤◌, ◌++◌, length, take, drop}
+use Rattle.std.proofs.Common.{◌≡◌, ◌-◌, ◌≤◌, ◌++◌, length, drop}
 use Rattle.pattern.specs.Tokens.{tokens, tokens_from, SameReading}
 use Rattle.pattern.proofs.cutter.cut.Given as goal
 
 abbrev pub invariant-loop-at : goal.invariant-loop-at
 invariant-loop-at g l =
     let reading = g.N.Notation.reading l.initial.notation in
-    (l.len ≤ l.at) × (l.at ≤ length l.bytes) × (length l.list ≡ 120)
-    × (take l.len l.list ++ tokens_from reading l.at 0 (drop l.at l.bytes) ≡ tokens reading l.bytes)
+    (length l.list.items ≤ l.at) × (l.at ≤ length l.bytes)
+    × (l.list.items ++ tokens_from reading l.at 0 (drop l.at l.bytes) ≡ tokens reading l.bytes)
     × (g.N.Alphabet.meaning l.notation ≡ g.N.Alphabet.meaning l.initial.notation)
     × SameReading (g.N.Notation.reading l.notation) reading
 

@@ -1,12 +1,9 @@
 use Rattle.std.proofs.Common.{ap, arith}
 use Rattle.std.proofs.lemmas.List.{take_all}
-use Rattle.text.proofs.Chains.{nothing, element, read_as}
+use Rattle.text.proofs.Chains.{element, read_as}
 use Rattle.proofreading.specs.Showing.{shown, shown_byte}
 use Rattle.proofreading.proofs.Pushes.{shown_push}
 use Rattle.proofreading.proofs.showing.write_bytes.Goals as goal
-
-pub loop-b-init : goal.loop-b-init
-loop-b-init c = nothing _
 
 pub loop-b-preserved : goal.loop-b-preserved
 loop-b-preserved c = element shown shown_byte shown_push c.args.bytes.now c.loop-b.b-index 0 (omega arith) c.loop-b.invariant c.write_byte.ensures

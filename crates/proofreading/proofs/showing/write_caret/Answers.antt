@@ -1,5 +1,5 @@
 use Rattle.std.proofs.Common.{take, sym, ap, ◌∙◌}
-use Rattle.text.proofs.Chains.{◌then◌, nothing, read_as}
+use Rattle.text.proofs.Chains.{◌then◌, read_as}
 use Rattle.proofreading.specs.Showing.{shown, caret_line}
 use Rattle.proofreading.proofs.Pushes.{blank}
 use Rattle.proofreading.proofs.showing.write_caret.Goals as goal
@@ -9,6 +9,3 @@ returns-in-Some c =
     let before = c.first-in-Some.ensures ∙ ap (take c.in-Some.at) c.first.ensures in
     read_as (sym (ap (caret_line c.args.bytes.now) c.in-Some.is))
     (c.text.ensures then read_as (ap (λ bs. blank (shown bs)) before) c.write_blank.ensures then c.text-in-Some.ensures)
-
-pub returns-in_default : goal.returns-in_default
-returns-in_default c = read_as (sym (ap (caret_line c.args.bytes.now) c.in_default.is)) (nothing _)

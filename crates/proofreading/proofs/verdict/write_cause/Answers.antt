@@ -1,10 +1,7 @@
 use Rattle.std.proofs.Common.{decimal, sym, ap, ◌∙◌}
-use Rattle.text.proofs.Chains.{◌then◌, nothing, read_as}
+use Rattle.text.proofs.Chains.{◌then◌, read_as}
 use Rattle.proofreading.specs.Verdicts.{cause_text}
 use Rattle.proofreading.proofs.verdict.write_cause.Goals as goal
 
 pub returns-in-Some : goal.returns-in-Some
 returns-in-Some c = read_as (sym (ap cause_text c.in-Some.is)) (c.text.ensures then read_as (ap decimal (c.from.ensures ∙ c.number.ensures)) c.number-in-Some.ensures)
-
-pub returns-in_default : goal.returns-in_default
-returns-in_default c = read_as (sym (ap cause_text c.in_default.is)) (nothing _)

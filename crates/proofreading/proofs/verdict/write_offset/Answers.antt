@@ -1,10 +1,7 @@
 use Rattle.std.proofs.Common.{sym, ap}
-use Rattle.text.proofs.Chains.{◌then◌, nothing, read_as}
+use Rattle.text.proofs.Chains.{◌then◌, read_as}
 use Rattle.proofreading.specs.Verdicts.{offset_text}
 use Rattle.proofreading.proofs.verdict.write_offset.Goals as goal
 
 pub returns-in-Some : goal.returns-in-Some
 returns-in-Some c = read_as (sym (ap offset_text c.in-Some.is)) (c.text.ensures then c.number.ensures)
-
-pub returns-in_default : goal.returns-in_default
-returns-in_default c = read_as (sym (ap offset_text c.in_default.is)) (nothing _)

@@ -11,7 +11,7 @@ returns c =
     then read_as (ap offset_text c.offset.ensures) c.write_offset.ensures
     then read_as (ap cause_text c.cause.ensures) c.write_cause.ensures
     then c.text-2.ensures
-    then read_as c.refusal_words.ensures c.text-3.ensures
+    then read_as (c.as_bytes.ensures.value ∙ c.words.ensures) c.text-3.ensures
     then c.text-4.ensures
     then c.write_pattern.ensures
     then read_as (ap (caret_line c.args.bytes.now) c.offset-2.ensures) c.write_caret.ensures

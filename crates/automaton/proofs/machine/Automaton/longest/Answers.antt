@@ -1,32 +1,48 @@
-use Rattle.std.proofs.Common.{subst}
-use Rattle.automaton.specs.Reads.{Longest, Silent}
-use Rattle.automaton.proofs.Ends.{reads, ends, best_more, best_same, longer, blank, shorter, silent}
+use Rattle.std.proofs.Common.{true, false, Some, None, length, ap, ◌∙◌, arith}
+use Rattle.automaton.specs.RowList.{rows_of}
+use Rattle.automaton.proofs.Ends.{best_begun, best_none, best_some, best_of, best_ordered, earliest_of}
 use Rattle.automaton.proofs.machine.Automaton.longest.Goals as goal
-use Rattle.automaton.proofs.machine.Automaton.longest.Goals.{then-r-l, else-r-l}
+use Rattle.automaton.proofs.machine.Automaton.longest.Goals.{then-self, else-self, in-Some, in_default}
+
+pub loop-i-init : goal.loop-i-init
+loop-i-init c =
+    let s = c.new-sweep.ensures in
+    let a = c.args.self.now in
+    let rows = rows_of c.args.rows.now in (
+      s.begun.0,
+      s.begun.1 ∙ c.as_slice-line.ensures.rows,
+      s.begun.2,
+      s.swept,
+      elim c.if-self.branch [
+        | then-self w ↦ simp w.best-is (best_begun a rows true w.if-self.true)
+        | else-self w ↦ simp w.best-is (best_begun a rows false w.if-self.false)
+      ],
+    )
+
+pub longer-best-requires-clause-ordered : goal.longer-best-requires-clause-ordered
+longer-best-requires-clause-ordered c = best_ordered _ _ _ _ c.loop-i.invariant.4
+
+pub longer-best-requires-clause-after : goal.longer-best-requires-clause-after
+longer-best-requires-clause-after c = omega (arith, c.in-Some.ensures.earliest.below, c.loop-i.invariant.2)
 
 pub loop-i-preserved : goal.loop-i-preserved
 loop-i-preserved c =
-    let b = c.loop-i.invariant.1 in
-    let x = c.turn-e.ensures in
-    elim c.if-r-l.branch [
-      | then-r-l w ↦ simp (w.l-is, w.r-is) (x.tracks, best_more _ _ _ _ _ _ b x.earliest x.bound w.if-r-l.true)
-      | else-r-l w ↦ simp (w.l-is, w.r-is) (x.tracks, best_same _ _ _ _ _ _ b x.earliest x.bound w.if-r-l.false)
-    ]
+    let inv = c.loop-i.invariant in
+    let next = c.turn.ensures.next in
+    let a = c.args.self.now in
+    let rows = rows_of c.args.rows.now in
+    let i = c.loop-i.i in (
+      ap (λ a. a.now) next.0 ∙ inv.0,
+      ap (λ r. r.now) next.1 ∙ inv.1,
+      omega (arith, next.2, inv.2),
+      c.turn.ensures.swept,
+      elim c.match-turn.branch [
+        | in-Some w ↦ simp w.best-is (best_some a rows i w.in-Some.start (earliest_of _ _ _ _ _ _ (Some w.in-Some.start) inv.0 inv.1 (omega (arith, inv.2)) w.in-Some.ensures.earliest) _ _ inv.4 w.longer-best.ensures)
+        | in_default w ↦ simp w.best-is (best_none a rows i _ inv.4 (earliest_of _ _ _ _ _ _ None inv.0 inv.1 (omega (arith, inv.2)) w.in_default.ensures.earliest))
+      ],
+    )
 
-pub returns-then-l-r : goal.returns-then-l-r
-returns-then-l-r c =
-    let b = c.loop-i.invariant.1 in
-    subst (λ rows. Longest c.args.self.now rows (c.loop-i.l, c.loop-i.r)) c.as_slice-line.ensures.rows
-    (reads _ _ _ _ (b.reads c.if-l-r.true), λ m s w. longer _ _ _ _ _ b c.loop-i-test.false c.if-l-r.true m s (ends _ _ _ _ w))
-
-pub returns-then-self : goal.returns-then-self
-returns-then-self c =
-    let b = c.loop-i.invariant.1 in
-    subst (λ rows. Longest c.args.self.now rows (0, 0)) c.as_slice-line.ensures.rows
-    (reads _ _ _ _ (blank _ _ c.if-self.true), λ m s w. shorter _ _ _ _ _ b c.loop-i-test.false c.if-l-r.false m s (ends _ _ _ _ w))
-
-pub returns-else-self : goal.returns-else-self
-returns-else-self c =
-    let b = c.loop-i.invariant.1 in
-    subst (Silent c.args.self.now) c.as_slice-line.ensures.rows
-    (λ m s w. silent _ _ _ _ _ b c.loop-i-test.false c.if-l-r.false c.if-self.false m s (ends _ _ _ _ w))
+pub returns : goal.returns
+returns c =
+    let n = ap length c.as_slice-line.ensures.rows in
+    best_of _ _ _ _ (omega (arith, n, c.loop-i-test.false)) c.loop-i.invariant.4

@@ -64,7 +64,8 @@ pub trait Alphabet {
 
 // How a test is written in bytes. A notation is given all the bytes from the test's first to the pattern's end, and is
 // asked only of bytes that begin with none of the eight signs. It may keep a state, but neither its meaning nor what it
-// reads depends on what it was asked before.
+// reads depends on what it was asked before. That it means and reads what it did stands in the contract of each function that
+// asks it: no field and no invariant can compare a value before and after.
 pub trait Notation: Alphabet {
     // the test and how many bytes it takes, or why there is none
     ghost reading: { Self → List ℕ → Result (ℕ × ℕ) Cause };

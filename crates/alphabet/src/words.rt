@@ -22,6 +22,7 @@ const KINDS: u32 = 65536;
 // The test that admits every word.
 const ANY: u32 = 131072;
 
+// Digits and limit are two arguments of `number`: a type for two calls would say no more.
 const KIND_DIGITS: usize = 3;
 
 const KIND_LIMIT: u32 = 255;

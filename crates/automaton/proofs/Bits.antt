@@ -188,9 +188,6 @@ in_below {x = x} {k = k} h e = elim (cases_lt k 64) [
 pub low_below : (x : ℕ) → 0 < x → x < 2 ^ 64 → count_trailing_zeros 64 x < 64
 low_below x p h = in_below h (low_in x p h)
 
-pub or_below : {x y : ℕ} → x < 2 ^ 64 → y < 2 ^ 64 → bit_or x y < 2 ^ 64
-or_below {x = x} {y = y} h g = or_lt 64 x y h g
-
 -- the lowest bit as a position, and the set without it
 pub lowest_of : (x : ℕ) → 0 < x → x < 2 ^ 64 → Lowest x (count_trailing_zeros 64 x) (bit_and x (x - 1))
 lowest_of x p h = record {

@@ -52,10 +52,10 @@ pub push : (a : Automaton) (rows : List ℕ) (i : ℕ) (starts sets : List ℕ) 
     → Part a rows i (set starts kept start) (set sets kept next) (kept + 1) (bit_or taken next)
 push a rows i starts sets kept taken start next hs ht part low young sound free fit = record {
   rising = λ j m lt h.
-      let j-old = old starts kept start j (omega arith) in
+      let j_old = old starts kept start j (omega arith) in
       elim (same_or m kept h) [
-        | inl l ↦ omega (arith, j-old, old starts kept start m l, part.rising j m lt l)
-        | inr e ↦ (let here : get_or (set starts kept start) m 0 ≡ start = ap (λ n. get_or (set starts kept start) n 0) e ∙ new starts kept start hs in omega (arith, j-old, here, low j (omega arith)))
+        | inl l ↦ omega (arith, j_old, old starts kept start m l, part.rising j m lt l)
+        | inr e ↦ (let here : get_or (set starts kept start) m 0 ≡ start = ap (λ n. get_or (set starts kept start) n 0) e ∙ new starts kept start hs in omega (arith, j_old, here, low j (omega arith)))
       ];
   begun = λ j h. elim (same_or j kept h) [
     | inl l ↦ omega (arith, old starts kept start j l, part.begun j l)

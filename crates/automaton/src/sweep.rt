@@ -4,14 +4,15 @@ ghost use Rattle.automaton.specs.RowList.{rows_of};
 ghost use Rattle.automaton.specs.Reads.{Reads};
 ghost use Rattle.automaton.specs.Stretches.{Longest, NoneReads, Marks};
 
-use crate::MOST_SYMBOLS;
 use crate::machine::Automaton;
 use crate::positions::Positions;
 use crate::rows::Rows;
+use crate::{MOST_SYMBOLS, POSITIONS};
 
 // The positions that walks have reached, in groups by the start of the walk. A position that is reached from several starts stands in
 // the group of the least, so the groups have no position in common.
-// Two arrays and a count for speed: an `ArrayVec` of groups took twice as long on `opt160` of `bench`, an array of groups a tenth longer.
+// Two arrays and a count for speed: with an `ArrayVec` of groups the case `opt160` of `bench` took twice as long, with an array of groups
+// a tenth longer, and with either of them longer than with RE2.
 #[derive(Drop)]
 struct Active {
     count: usize,
@@ -19,8 +20,8 @@ struct Active {
     sets: [u64; MOST_SYMBOLS],
 }
 
-// A sweep over the rows of a line, with the groups after the symbols that are read. That they are these is `Swept`, a clause and no
-// ghost field: it holds walks, and a ghost field holds no data.
+// A sweep over the rows of a line, with the groups after the symbols that are read. That the groups are those is said by the clause
+// `Swept` and by no ghost field: it gives a walk for each position, and a ghost field may hold no data.
 #[derive(Drop)]
 struct Sweep<'a> {
     automaton: &'a Automaton,
@@ -32,7 +33,7 @@ struct Sweep<'a> {
 }
 
 // The positions that may follow one of a set.
-fn onward(follow: &[u64; 64], positions: u64) -> u64
+fn onward(follow: &[u64; POSITIONS], positions: u64) -> u64
     ensures sound { (q : ℕ) → In result q → ((p : ℕ) × In positions p × In (slice_index follow.now p) q) }
     ensures complete { (p q : ℕ) → In positions p → In (slice_index follow.now p) q → In result q }
 {
@@ -97,8 +98,8 @@ impl<'a> Sweep<'a> {
         self.read += 1;
     }
 
-    // Reads the next symbol, and answers the least start of a stretch that ends after it and reads. In line in both its loops, since
-    // `opt160` of `bench` takes an eighth longer where it is called.
+    // Reads the next symbol, and answers the least start of a stretch that ends after it and reads. Always in line, since where it is
+    // called the case `opt160` of `bench` takes longer than with RE2.
     #[inline(always)]
     fn turn(&mut self) -> Option<u8>
         requires more { self.old.read < length self.old.rows.now }
@@ -152,6 +153,7 @@ impl Automaton {
         let line = rows.as_slice();
         let mut sweep = Sweep::new(self, line);
         let mut best = if self.nullable { Some((0, 0)) } else { None };
+        // By index: each turn reads the next symbol by itself, and a stretch ends behind it.
         for i in 0..line.len() {
             if let Some(start) = sweep.turn() {
                 best = longer(best, start as usize, i + 1);
@@ -172,7 +174,7 @@ impl Automaton {
         let leasts = self.leasts(line);
         let mut low = line.len();
         let mut count = 0;
-        // By index, which the test compares, and by which two arrays of unlike lengths are read and written.
+        // By index, which the test compares; and after an adapter of `iter_mut` a proof would know nothing of what was written.
         for i in (0..line.len()).rev() {
             if let Some(start) = leasts[i] {
                 low = low.min(start as usize);

@@ -4,6 +4,7 @@
 
 use alphabet::letters::Letters;
 use shelf::Shelf;
+use shelf::refusal::Refusal;
 use std::env;
 
 mod cases;
@@ -27,7 +28,8 @@ fn print_answers(rt: &HostRuntime, case: &Case<'_>) -> anyhow::Result<()> {
     let marked = shelf.mark(0, case.line, &mut [0; 160])?;
     match shelf.longest(0, case.line) {
         Ok((start, end)) => println!(rt; "{name} {start} {end} {marked}")?,
-        Err(_) => println!(rt; "{name} none {marked}")?,
+        Err(Refusal::NoMatch) => println!(rt; "{name} none {marked}")?,
+        Err(refusal) => return Err(refusal.into()),
     }
     Ok(())
 }
@@ -47,10 +49,10 @@ fn print_times(rt: &HostRuntime, case: &Case<'_>, runs: usize) -> anyhow::Result
 }
 
 fn run(rt: &HostRuntime) -> anyhow::Result<()> {
-    let runs = match env::args(rt)?.nth(1) {
-        Some(text) => Some(text.parse::<usize>()?),
-        None => None,
-    };
+    let runs = env::args(rt)?
+        .nth(1)
+        .map(|text| text.parse::<usize>())
+        .transpose()?;
     for case in Texts::new().cases() {
         match runs {
             Some(runs) => print_times(rt, &case, runs)?,

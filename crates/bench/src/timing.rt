@@ -8,7 +8,7 @@ pub const PLACES: usize = 2;
 const ROUNDS: usize = 40;
 
 // The nanoseconds that one run takes, in the best of some rounds of so many runs. A run is a report on the line by the pattern at a
-// place, and answers a number from it, so that no run can be left out.
+// place, and answers a number from it (0 where it is refused), so that no run can be left out.
 pub fn time<F: FnMut(usize) -> usize>(
     rt: &HostRuntime,
     runs: usize,

@@ -1,5 +1,5 @@
 -- What is written is read back as it was, and what is read gives the same bytes when it is written.
-use Rattle.std.proofs.Common.{◌≡◌, ℕ, zero, suc, ◌+◌, ◌-◌, ◌<◌, ◌≤◌, true, ltb, leb, List, [], ◌∷◌, ◌++◌, length, take, drop, replicate, Some, None, Ok, Err, Option, Result, sym, refl, ap, ◌∙◌, subst, append_assoc, arith, length-append}
+use Rattle.std.proofs.Common.{◌≡◌, ℕ, zero, suc, ◌+◌, ◌-◌, ◌<◌, ◌≤◌, true, ltb, leb, List, [], ◌∷◌, ◌++◌, length, take, drop, get_or, replicate, Some, None, Ok, Err, Option, Result, sym, refl, ap, ◌∙◌, subst, append_assoc, arith, length-append}
 use Rattle.std.proofs.lemmas.List.{length-replicate, replicate-append-replicate}
 use Rattle.std.proofs.lemmas.Bool.{ltb-true, leb-true, and_parts, and_from}
 use Rattle.std.proofs.lemmas.Grind.{common_steps}
@@ -13,6 +13,7 @@ use Rattle.cue.specs.Cues.{Cues, after, parts_to_come, runs_to_come}
 use Rattle.cue.specs.Answers.{with_run, filled, content_of, Fitting, IsRecord, RoundTrip}
 use Rattle.cue.proofs.Laying.{laid_whole, longest_runs, runs_again, marks_laid, few_runs, within_line, laid_length}
 use Rattle.cue.proofs.Numbers.{AllBytes, number_read, number_read_within, number_written, number_written_within, ok_is, err_not_ok}
+use Rattle.cue.proofs.Filling.{all_bytes}
 use Rattle.cue.proofs.Entries.{with_entry_lem, no_parts, none_fits, fits_past, few_parts, longer, entered, listed, part_fits}
 
 -- a run on a line that is not marked from the end of the run before on
@@ -257,10 +258,10 @@ read_is_written n bytes ms entries all short e =
     )
 
 -- both, of any bytes
-pub round_trip : (n : ℕ) (bytes : List ℕ) → AllBytes bytes → RoundTrip n bytes
-round_trip n bytes all = record {
+pub round_trip : (n : ℕ) (bytes : List ℕ) → ((i : ℕ) → get_or bytes i 0 < 256) → RoundTrip n bytes
+round_trip n bytes h = record {
   written_is_read = λ ms entries fit e. ap (content_of n) e ∙ written_is_read n ms entries fit;
-  read_is_written = λ ms entries short e. read_is_written n bytes ms entries all short e;
+  read_is_written = λ ms entries short e. read_is_written n bytes ms entries (all_bytes bytes h) short e;
 }
 
 -- what is accepted is a record, and what has a fault is none

@@ -1,5 +1,5 @@
--- Why bytes are no cue record, and why a call is turned down, by number and offset.
-use Rattle.std.specs.Prelude.{ℕ, Some, None, Option}
+-- Why bytes are no cue record, and why a call is turned down, by number and offset, and in words.
+use Rattle.std.specs.Prelude.{ℕ, List, Some, None, codes, Option}
 use Rattle.cue.specs.declared.refusal.Fault.{Fault}
 use Rattle.cue.specs.declared.refusal.Fault.TheVariants.{CutShort, LongNumber, BrokenRule}
 use Rattle.cue.specs.declared.refusal.Refusal.{Refusal}
@@ -9,6 +9,11 @@ abbrev pub fault_number : Fault → ℕ
 fault_number (CutShort at) = 16
 fault_number (LongNumber at) = 17
 fault_number (BrokenRule at) = 18
+
+abbrev pub fault_words : Fault → List ℕ
+fault_words (CutShort at) = codes "the record is cut short"
+fault_words (LongNumber at) = codes "a number is not in its shortest form, or too long"
+fault_words (BrokenRule at) = codes "a number breaks a rule, or a byte is left over"
 
 abbrev pub fault_offset : Fault → ℕ
 fault_offset (CutShort at) = at
@@ -20,6 +25,12 @@ refusal_number LineTooLong = 12
 refusal_number BufferTooShort = 13
 refusal_number PartMisfits = 14
 refusal_number (NoRecord fault) = fault_number fault
+
+abbrev pub refusal_words : Refusal → List ℕ
+refusal_words LineTooLong = codes "a line of more than 160 symbols"
+refusal_words BufferTooShort = codes "the buffer is too short"
+refusal_words PartMisfits = codes "a part is empty, reversed or past the line"
+refusal_words (NoRecord fault) = fault_words fault
 
 abbrev pub refusal_offset : Refusal → Option ℕ
 refusal_offset LineTooLong = None

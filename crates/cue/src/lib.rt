@@ -11,5 +11,5 @@ pub use reading::read;
 pub use refusal::{Fault, Refusal};
 pub use writing::write;
 
-/// A line has at most so many symbols.
+/// A line has at most so many symbols. The automaton's bound has this name and value too, but cue does not stand on automaton.
 pub const MOST_SYMBOLS: usize = 160;

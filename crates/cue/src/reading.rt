@@ -54,6 +54,7 @@ fn content_of(bytes: &[u8], symbols: usize) -> Result<Content, Fault>
 }
 
 /// Reads the record of a line of so many symbols: 1 or 0 for each symbol at the front of the buffer, and the parts on the sheet.
+#[tactic(auto, using(crate::proofs::RoundTrip::round_trip))]
 pub fn read(
     bytes: &[u8],
     symbols: usize,

@@ -1,10 +1,13 @@
 // Why bytes are no cue record, and why a call is turned down.
-ghost use Rattle.std.specs.Prelude.{◌≡◌};
-ghost use Rattle.cue.specs.Faults.{fault_number, fault_offset, refusal_number, refusal_offset};
+ghost use Rattle.std.specs.Prelude.{◌≡◌, Some};
+ghost use Rattle.cue.specs.Faults.{fault_number, fault_words, fault_offset, refusal_number, refusal_words, refusal_offset};
 ghost use Rattle.cue.specs.declared.refusal.Refusal.TheVariants.{NoRecord};
 
+use std::error::Error;
+use std::fmt;
+
 /// The first thing that is wrong with a record, at an offset of its bytes.
-#[derive(Clone, Copy, PartialEq, Debug)]
+#[derive(Clone, Copy, PartialEq, Eq, Debug)]
 pub enum Fault {
     /// The record ends where a number goes on; at its length.
     CutShort(usize),
@@ -14,8 +17,8 @@ pub enum Fault {
     BrokenRule(usize),
 }
 
-/// Why a record is not written or not read.
-#[derive(Clone, Copy, PartialEq, Debug)]
+/// Why a record is not written or not read. These stand apart from the shelf's refusals: cue knows nothing of the shelf.
+#[derive(Clone, Copy, PartialEq, Eq, Debug)]
 pub enum Refusal {
     LineTooLong,
     BufferTooShort,
@@ -23,7 +26,7 @@ pub enum Refusal {
     NoRecord(Fault),
 }
 
-// By hand, since a derived `From` has no contract, and what a `?` makes is named in contracts.
+// By hand, since the `From` that thiserror derives has no contract, and contracts name what a `?` makes.
 impl From<Fault> for Refusal {
     ghost from_gives = { λ f r. r ≡ NoRecord f };
 
@@ -32,8 +35,29 @@ impl From<Fault> for Refusal {
     }
 }
 
+impl fmt::Display for Fault {
+    ghost output = { λ fault. Some (fault_words fault) };
+
+    fn fmt<W: fmt::Write>(&self, f: &mut fmt::Formatter<W>) -> fmt::Result {
+        f.write_str(self.words())
+    }
+}
+
+impl Error for Fault {}
+
+impl fmt::Display for Refusal {
+    ghost output = { λ refusal. Some (refusal_words refusal) };
+
+    fn fmt<W: fmt::Write>(&self, f: &mut fmt::Formatter<W>) -> fmt::Result {
+        f.write_str(self.words())
+    }
+}
+
+impl Error for Refusal {}
+
 impl Fault {
     /// The number under which a fault is reported.
+    // By hand, since a case that holds a value has no number of its own.
     pub fn number(self) -> u8
         ensures { result ≡ fault_number self }
     {
@@ -41,6 +65,17 @@ impl Fault {
             Fault::CutShort(_) => 16,
             Fault::LongNumber(_) => 17,
             Fault::BrokenRule(_) => 18,
+        }
+    }
+
+    /// What is wrong, for one who has no manual at hand.
+    pub fn words(self) -> &'static str
+        ensures { result.now ≡ fault_words self }
+    {
+        match self {
+            Fault::CutShort(_) => "the record is cut short",
+            Fault::LongNumber(_) => "a number is not in its shortest form, or too long",
+            Fault::BrokenRule(_) => "a number breaks a rule, or a byte is left over",
         }
     }
 
@@ -57,6 +92,7 @@ impl Fault {
 
 impl Refusal {
     /// The number under which a refusal is reported.
+    // By hand, as a fault's is.
     pub fn number(self) -> u8
         ensures { result ≡ refusal_number self }
     {
@@ -65,6 +101,18 @@ impl Refusal {
             Refusal::BufferTooShort => 13,
             Refusal::PartMisfits => 14,
             Refusal::NoRecord(fault) => fault.number(),
+        }
+    }
+
+    /// What is wrong, for one who has no manual at hand.
+    pub fn words(self) -> &'static str
+        ensures { result.now ≡ refusal_words self }
+    {
+        match self {
+            Refusal::LineTooLong => "a line of more than 160 symbols",
+            Refusal::BufferTooShort => "the buffer is too short",
+            Refusal::PartMisfits => "a part is empty, reversed or past the line",
+            Refusal::NoRecord(fault) => fault.words(),
         }
     }
 

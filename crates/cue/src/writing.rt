@@ -44,7 +44,7 @@ fn write_runs(out: &mut Text, marks: &[u8])
             write_number(out, run.len());
             gap = 0;
         }
-        // The unmarked symbol that stands behind.
+        // One unmarked symbol stands between two pieces.
         gap += 1;
     }
 }
@@ -114,6 +114,7 @@ pub fn write(marks: &[u8], sheet: &Sheet, symbols: usize, out: &mut [u8]) -> Res
     ensures runs_of_the_marks { RunsOf (take symbols marks.now) }
     ensures numbers_in_shortest_form { (n : ℕ) → Shortest n (leb128 n) }
 {
+    // Both bounds, since a line may have fewer symbols than there is room for marks, and a refusal tells so.
     if symbols > MOST_SYMBOLS {
         return Err(Refusal::LineTooLong);
     }

@@ -1,17 +1,18 @@
 // Cue records, good and damaged.
+use cue::Fault::{BrokenRule, CutShort, LongNumber};
 use cue::cursor::{MarkedRun, TaggedPart};
-use cue::{Cue, Cursor, Refusal, read, write};
+use cue::{Cue, Cursor, Fault, Refusal, read, write};
 use sheet::{Part, Sheet};
 use std::process::Abort;
 use std::test::Fail;
 use text::buffer::Text;
 
-// What is due where a byte comes twice, and where it is changed to 0, to one more, to 128 and to 255: a refusal's number and offset, or
-// zeros where the record is good again.
+// The fault that is due where a byte comes twice, and those where it is changed to 0, to one more, to 128 and to 255: none where the
+// record is good again.
 #[derive(Clone, Copy)]
 struct Due {
-    twice: (u8, usize),
-    changed: [(u8, usize); 4],
+    twice: Fault,
+    changed: [Option<Fault>; 4],
 }
 
 // The marks `.##.###.#`, tag 1 from 1 to 3 and tag 3 from 4 to 7.
@@ -19,60 +20,120 @@ const SHORT: [u8; 14] = [3, 1, 2, 1, 3, 1, 1, 2, 1, 1, 2, 3, 4, 3];
 
 const SHORT_DAMAGED: [Due; 14] = [
     Due {
-        twice: (18, 5),
-        changed: [(18, 5), (18, 7), (18, 7), (18, 7)],
+        twice: BrokenRule(5),
+        changed: [
+            Some(BrokenRule(5)),
+            Some(BrokenRule(7)),
+            Some(BrokenRule(7)),
+            Some(BrokenRule(7)),
+        ],
     },
     Due {
-        twice: (18, 11),
-        changed: [(0, 0), (18, 6), (18, 1), (18, 1)],
+        twice: BrokenRule(11),
+        changed: [
+            None,
+            Some(BrokenRule(6)),
+            Some(BrokenRule(1)),
+            Some(BrokenRule(1)),
+        ],
     },
     Due {
-        twice: (18, 6),
-        changed: [(18, 2), (18, 6), (18, 2), (18, 2)],
+        twice: BrokenRule(6),
+        changed: [
+            Some(BrokenRule(2)),
+            Some(BrokenRule(6)),
+            Some(BrokenRule(2)),
+            Some(BrokenRule(2)),
+        ],
     },
     Due {
-        twice: (18, 11),
-        changed: [(18, 3), (18, 6), (18, 3), (18, 3)],
+        twice: BrokenRule(11),
+        changed: [
+            Some(BrokenRule(3)),
+            Some(BrokenRule(6)),
+            Some(BrokenRule(3)),
+            Some(BrokenRule(3)),
+        ],
     },
     Due {
-        twice: (18, 5),
-        changed: [(18, 4), (18, 6), (18, 4), (18, 4)],
+        twice: BrokenRule(5),
+        changed: [
+            Some(BrokenRule(4)),
+            Some(BrokenRule(6)),
+            Some(BrokenRule(4)),
+            Some(BrokenRule(4)),
+        ],
     },
     Due {
-        twice: (18, 11),
-        changed: [(18, 5), (18, 6), (18, 5), (18, 5)],
+        twice: BrokenRule(11),
+        changed: [
+            Some(BrokenRule(5)),
+            Some(BrokenRule(6)),
+            Some(BrokenRule(5)),
+            Some(BrokenRule(5)),
+        ],
     },
     Due {
-        twice: (18, 11),
-        changed: [(18, 6), (18, 6), (18, 6), (18, 6)],
+        twice: BrokenRule(11),
+        changed: [
+            Some(BrokenRule(6)),
+            Some(BrokenRule(6)),
+            Some(BrokenRule(6)),
+            Some(BrokenRule(6)),
+        ],
     },
     Due {
-        twice: (18, 11),
-        changed: [(18, 8), (16, 14), (16, 14), (16, 14)],
+        twice: BrokenRule(11),
+        changed: [
+            Some(BrokenRule(8)),
+            Some(CutShort(14)),
+            Some(CutShort(14)),
+            Some(CutShort(14)),
+        ],
     },
     Due {
-        twice: (18, 14),
-        changed: [(18, 8), (0, 0), (18, 8), (18, 8)],
+        twice: BrokenRule(14),
+        changed: [
+            Some(BrokenRule(8)),
+            None,
+            Some(BrokenRule(8)),
+            Some(BrokenRule(8)),
+        ],
     },
     Due {
-        twice: (18, 14),
-        changed: [(0, 0), (0, 0), (18, 9), (18, 9)],
+        twice: BrokenRule(14),
+        changed: [None, None, Some(BrokenRule(9)), Some(BrokenRule(9))],
     },
     Due {
-        twice: (18, 14),
-        changed: [(18, 10), (0, 0), (18, 10), (18, 10)],
+        twice: BrokenRule(14),
+        changed: [
+            Some(BrokenRule(10)),
+            None,
+            Some(BrokenRule(10)),
+            Some(BrokenRule(10)),
+        ],
     },
     Due {
-        twice: (18, 14),
-        changed: [(18, 11), (0, 0), (18, 11), (18, 11)],
+        twice: BrokenRule(14),
+        changed: [
+            Some(BrokenRule(11)),
+            None,
+            Some(BrokenRule(11)),
+            Some(BrokenRule(11)),
+        ],
     },
     Due {
-        twice: (18, 14),
-        changed: [(0, 0), (0, 0), (18, 12), (18, 12)],
+        twice: BrokenRule(14),
+        changed: [None, None, Some(BrokenRule(12)), Some(BrokenRule(12))],
     },
     Due {
-        twice: (18, 14),
-        changed: [(18, 13), (0, 0), (16, 14), (16, 14)],
+        twice: BrokenRule(14),
+        changed: [
+            Some(BrokenRule(13)),
+            None,
+            Some(CutShort(14)),
+            Some(CutShort(14)),
+        ],
     },
 ];
 
@@ -81,46 +142,81 @@ const LONG: [u8; 9] = [1, 3, 150, 1, 1, 2, 130, 1, 30];
 
 const LONG_DAMAGED: [Due; 9] = [
     Due {
-        twice: (18, 9),
-        changed: [(18, 2), (18, 8), (18, 6), (18, 6)],
+        twice: BrokenRule(9),
+        changed: [
+            Some(BrokenRule(2)),
+            Some(BrokenRule(8)),
+            Some(BrokenRule(6)),
+            Some(BrokenRule(6)),
+        ],
     },
     Due {
-        twice: (18, 9),
-        changed: [(0, 0), (0, 0), (17, 1), (17, 1)],
+        twice: BrokenRule(9),
+        changed: [None, None, Some(LongNumber(1)), Some(LongNumber(1))],
     },
     Due {
-        twice: (17, 2),
-        changed: [(18, 2), (0, 0), (0, 0), (18, 2)],
+        twice: LongNumber(2),
+        changed: [Some(BrokenRule(2)), None, None, Some(BrokenRule(2))],
     },
     Due {
-        twice: (18, 9),
-        changed: [(17, 2), (18, 2), (17, 2), (17, 2)],
+        twice: BrokenRule(9),
+        changed: [
+            Some(LongNumber(2)),
+            Some(BrokenRule(2)),
+            Some(LongNumber(2)),
+            Some(LongNumber(2)),
+        ],
     },
     Due {
-        twice: (18, 9),
-        changed: [(18, 5), (16, 9), (18, 6), (18, 6)],
+        twice: BrokenRule(9),
+        changed: [
+            Some(BrokenRule(5)),
+            Some(CutShort(9)),
+            Some(BrokenRule(6)),
+            Some(BrokenRule(6)),
+        ],
     },
     Due {
-        twice: (18, 9),
-        changed: [(18, 5), (0, 0), (17, 5), (17, 5)],
+        twice: BrokenRule(9),
+        changed: [
+            Some(BrokenRule(5)),
+            None,
+            Some(LongNumber(5)),
+            Some(LongNumber(5)),
+        ],
     },
     Due {
-        twice: (17, 6),
-        changed: [(18, 8), (18, 8), (0, 0), (18, 6)],
+        twice: LongNumber(6),
+        changed: [
+            Some(BrokenRule(8)),
+            Some(BrokenRule(8)),
+            None,
+            Some(BrokenRule(6)),
+        ],
     },
     Due {
-        twice: (18, 9),
-        changed: [(17, 6), (18, 6), (17, 6), (17, 6)],
+        twice: BrokenRule(9),
+        changed: [
+            Some(LongNumber(6)),
+            Some(BrokenRule(6)),
+            Some(LongNumber(6)),
+            Some(LongNumber(6)),
+        ],
     },
     Due {
-        twice: (18, 9),
-        changed: [(18, 8), (18, 8), (16, 9), (16, 9)],
+        twice: BrokenRule(9),
+        changed: [
+            Some(BrokenRule(8)),
+            Some(BrokenRule(8)),
+            Some(CutShort(9)),
+            Some(CutShort(9)),
+        ],
     },
 ];
 
-// The refusal's number and offset, or zeros. A refusal has to leave buffer and sheet as they were, and what is read has to give the same
+// What is wrong with a record, if anything is. A refusal has to leave buffer and sheet as they were, and what is read has to give the same
 // bytes when it is written.
-fn verdict(rt: &impl Abort, bytes: &[u8], symbols: usize) -> Result<(u8, usize), Fail> {
+fn fault_of(rt: &impl Abort, bytes: &[u8], symbols: usize) -> Result<Option<Fault>, Fail> {
     let mut marks = [7; 161];
     let mut sheet = Sheet::new();
     let _ = sheet.fill(8, Some(Part { left: 5, right: 4 }));
@@ -131,12 +227,16 @@ fn verdict(rt: &impl Abort, bytes: &[u8], symbols: usize) -> Result<(u8, usize),
             let mut out = [9; 64];
             assert_eq!(rt; write(&marks, &sheet, symbols, &mut out), Ok(bytes.len()));
             assert!(rt; out.starts_with(bytes));
-            Ok((0, 0))
+            Ok(None)
         }
         Err(refusal) => {
             assert!(rt; marks == [7; 161]);
             assert!(rt; sheet == before);
-            Ok((refusal.number(), refusal.offset().unwrap_or(0)))
+            let Refusal::NoRecord(fault) = refusal else {
+                assert!(rt; false);
+                return Ok(None);
+            };
+            Ok(Some(fault))
         }
     }
 }
@@ -148,35 +248,28 @@ fn joined(
     middle: &[u8],
     back: &[u8],
     symbols: usize,
-) -> Result<(u8, usize), Fail> {
+) -> Result<Option<Fault>, Fail> {
     let mut record = Text::new();
     record.text(front);
     record.text(middle);
     record.text(back);
-    verdict(rt, record.bytes(), symbols)
+    fault_of(rt, record.bytes(), symbols)
 }
 
 fn check_damages(rt: &impl Abort, good: &[u8], symbols: usize, due: &[Due]) -> Result<(), Fail> {
-    assert_eq!(rt; verdict(rt, good, symbols)?, (0, 0));
+    assert_eq!(rt; fault_of(rt, good, symbols)?, None);
     assert_eq!(rt; due.len(), good.len());
     for (k, byte) in good.iter().enumerate() {
-        let front = &good[0..k];
+        let one = due[k];
+        let front = &good[..k];
         let back = &good[k + 1..];
-        let Some(one) = due.get(k) else {
-            return Ok(());
-        };
-        assert_eq!(rt; verdict(rt, front, symbols)?, (16, k));
-        assert_eq!(rt;
-            joined(rt, front, &[*byte, *byte], back, symbols)?,
-            one.twice
-        );
-        assert_eq!(rt; joined(rt, front, &[0], back, symbols)?, one.changed[0]);
-        assert_eq!(rt;
-            joined(rt, front, &[byte.saturating_add(1)], back, symbols)?,
-            one.changed[1]
-        );
-        assert_eq!(rt; joined(rt, front, &[128], back, symbols)?, one.changed[2]);
-        assert_eq!(rt; joined(rt, front, &[255], back, symbols)?, one.changed[3]);
+        assert_eq!(rt; fault_of(rt, front, symbols)?, Some(CutShort(k)));
+        let twice = joined(rt, front, &[*byte, *byte], back, symbols)?;
+        assert_eq!(rt; twice, Some(one.twice));
+        let changes = [0, byte.saturating_add(1), 128, 255];
+        for (change, fault) in changes.iter().zip(&one.changed) {
+            assert_eq!(rt; joined(rt, front, &[*change], back, symbols)?, *fault);
+        }
     }
     Ok(())
 }
@@ -185,6 +278,16 @@ fn check_damages(rt: &impl Abort, good: &[u8], symbols: usize, due: &[Due]) -> R
 fn damaged_records(rt: HostRuntime) -> Result<(), Fail> {
     check_damages(&rt, &SHORT, 9, &SHORT_DAMAGED)?;
     check_damages(&rt, &LONG, 160, &LONG_DAMAGED)
+}
+
+#[test]
+fn numbers_and_offsets(rt: HostRuntime) {
+    assert_eq!(rt; Refusal::from(CutShort(5)).number(), 16);
+    assert_eq!(rt; Refusal::from(LongNumber(6)).number(), 17);
+    assert_eq!(rt; Refusal::from(BrokenRule(7)).number(), 18);
+    assert_eq!(rt; Refusal::from(CutShort(5)).offset(), Some(5));
+    assert_eq!(rt; Refusal::from(LongNumber(6)).offset(), Some(6));
+    assert_eq!(rt; Refusal::from(BrokenRule(7)).offset(), Some(7));
 }
 
 #[test]

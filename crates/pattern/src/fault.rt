@@ -27,6 +27,7 @@ pub enum Fault {
     RepeatedTag(usize),
 }
 
+// By hand, since a derived `From` has no contract, and contracts name what a `?` makes.
 impl From<Misread> for Fault {
     ghost from_gives = { λ m r. r ≡ BadTest m };
 
@@ -46,7 +47,7 @@ impl fmt::Display for Fault {
 impl Error for Fault {}
 
 impl Fault {
-    /// The number under which a fault is reported.
+    /// The number under which a fault is reported. By hand, since a case that holds a value has no discriminant of its own.
     pub fn number(self) -> u8
         ensures { result ≡ fault_number self }
     {

@@ -14,6 +14,7 @@ use automaton::POSITIONS;
 // Each test has a position of the automaton.
 const MOST_TESTS: u8 = POSITIONS as u8;
 
+// `sheet` and `ranking` have the same number, and stand apart from patterns.
 const MOST_TAGS: u8 = 8;
 
 const MOST_OPEN: u8 = 8;
@@ -26,8 +27,8 @@ pub struct Part {
 }
 
 // A place among the tokens of a pattern of `end` bytes; the nodes and the tests that were made of the tokens before it,
-// and how many tags were opened there. Nodes and tests stand in arrays with their counts beside them, as in the pattern, which
-// takes them over.
+// and how many tags were opened there. Nodes and tests stand in arrays with their counts beside them, since the
+// pattern, which is `Copy`, takes the whole arrays over.
 #[derive(Drop)]
 pub struct Reader<'a> {
     tokens: &'a [Token],

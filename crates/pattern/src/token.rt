@@ -15,6 +15,7 @@ pub enum Kind {
     CloseTag,
     // the number by which the alphabet keeps the test, or why the notation does not read one
     Test(Result<u32, Misread>),
+    // not the absence of a token, since a fault at the end is told by an offset, as at every token
     #[default]
     End,
 }

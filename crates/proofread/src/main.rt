@@ -16,8 +16,7 @@ fn main(rt: HostRuntime) -> io::Result<()> {
     let mut line: LineBuffer<FRONT> = LineBuffer::new();
     let mut proofreader = Proofreader::new();
     let mut text = Text::new();
-    let mut begun = false;
-    // The count ends the loop where no input's end does.
+    // A loop has to be shown to end, so this one has a bound, which no input reaches.
     for _ in 0..u64::MAX {
         // No verdict waits while the next line is waited for.
         if input.buffer().is_empty() {
@@ -27,17 +26,19 @@ fn main(rt: HostRuntime) -> io::Result<()> {
         if chunk.is_empty() {
             break;
         }
-        let end = line.take_in(chunk);
-        let n = end.unwrap_or(chunk.len());
-        input.consume(n);
-        begun = end.is_none();
-        if end.is_some() {
-            proofreader.proofread(line.bytes(), &mut text);
-            output.write_all(text.bytes())?;
-            line.clear();
+        let whole = chunk.len();
+        match line.take_in(chunk) {
+            Some(n) => {
+                input.consume(n);
+                proofreader.proofread(line.bytes(), &mut text);
+                output.write_all(text.bytes())?;
+                line.clear();
+            }
+            None => input.consume(whole),
         }
     }
-    if begun {
+    // A last line that no line feed ended. Where one did, nothing is held.
+    if !line.bytes().is_empty() {
         proofreader.proofread(line.bytes(), &mut text);
         output.write_all(text.bytes())?;
     }

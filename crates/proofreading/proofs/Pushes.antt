@@ -32,15 +32,15 @@ from_one : (ks : List ℕ) → drop 1 (enumerate_from 0 ks) ≡ enumerate_from 1
 from_one [] = refl
 from_one (k ∷ ks) = refl
 
-pub length-from_one : (ks : List ℕ) → length (drop 1 (enumerate_from 0 ks)) ≡ length (drop 1 ks)
-length-from_one ks = ap length (from_one ks) ∙ length-enumerate_from 1 (drop 1 ks)
+pub length_from_one : (ks : List ℕ) → length (drop 1 (enumerate_from 0 ks)) ≡ length (drop 1 ks)
+length_from_one ks = ap length (from_one ks) ∙ length-enumerate_from 1 (drop 1 ks)
 
 -- the lines up to a number, and its own
 pub lines_more : {t u v : Text} (ks : List ℕ) (i n k : ℕ) → i < length (drop 1 (enumerate_from 0 ks)) → (n, k) ≡ get_or (drop 1 (enumerate_from 0 ks)) i (n, k)
     → Adds t (number_lines 1 (take i (drop 1 ks))) u → Adds u (number_line n k) v → Adds t (number_lines 1 (take (i + 1) (drop 1 ks))) v
 lines_more ks i n k h e p q =
     let rest = drop 1 ks in
-    let in_rest : i < length rest = omega (arith, length-from_one ks) in
+    let in_rest : i < length rest = omega (arith, length_from_one ks) in
     let same : (n, k) ≡ (1 + i, get_or rest i k) = e ∙ ap (λ l. get_or l i (n, k)) (from_one ks) ∙ get_or-enumerate_from 1 rest i (n, k) in_rest in
     let at : 1 + length (take i rest) ≡ n = omega (arith, length-take-le i rest (omega arith), ap (λ x. x.0) same) in
     let more : number_lines 1 (take (i + 1) rest) ≡ number_lines 1 (take i rest) ++ number_line n k

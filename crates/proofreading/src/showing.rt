@@ -5,7 +5,7 @@ ghost use Rattle.text.specs.Texts.{Adds};
 
 use text::buffer::Text;
 
-// Of a longer pattern only so many bytes are shown.
+// Of a longer pattern only so many bytes are shown. (As many as a lawful one has; what is shown could be another number.)
 const SHOWN: usize = 120;
 
 // The first n bytes, or all where there are fewer.
@@ -15,12 +15,11 @@ fn first(bytes: &[u8], n: usize) -> &[u8]
     &bytes[..n.min(bytes.len())]
 }
 
-// `char::from_digit` gives small letters, and `{:X}` is written by `write!`, which may fail.
 fn hex_digit(d: u8) -> u8
     requires { d < 16 }
     ensures { result ≡ hex_digit d }
 {
-    if d < 10 { b'0' + d } else { b'A' - 10 + d }
+    b"0123456789ABCDEF"[usize::from(d)]
 }
 
 fn is_printable(byte: u8) -> bool

@@ -21,6 +21,8 @@ fn write_lawful(out: &mut Text, bytes: &[u8], tests: usize, tags: usize)
     write_pattern(out, bytes);
 }
 
+// Beside `write_cause`, and not one function of a label and a number for both: each number would first have to be mapped to a `u64` by a
+// closure, which is no plainer than these lines.
 fn write_offset(out: &mut Text, offset: Option<usize>)
     ensures { Adds out.old (offset_text offset) out.new }
 {

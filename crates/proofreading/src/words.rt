@@ -5,7 +5,8 @@ ghost use Rattle.text.specs.Texts.{Adds};
 
 use text::buffer::Text;
 
-// The short name of the refusals of a number. By number and not by refusal, since a tally counts so.
+// The short name of the refusals of a number. By number and not by refusal: a tally counts by the number that the report prints, and an
+// offset or cause is no part of it.
 pub(crate) fn refusal_name(number: usize) -> &'static [u8]
     ensures { result.now ≡ refusal_name number }
 {
@@ -24,6 +25,7 @@ pub(crate) fn refusal_name(number: usize) -> &'static [u8]
         12 => b"line too long",
         13 => b"short buffer",
         15 => b"no match",
+        // No refusal has the number 0 or 14.
         _ => b"",
     }
 }

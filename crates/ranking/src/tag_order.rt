@@ -7,6 +7,7 @@ use crate::Ranking;
 use std::cmp::Ordering;
 
 // How many tags there are.
+// As many as a set of tags, which is one byte, has room for.
 const TAGS: usize = 8;
 
 /// Ranks a trail by the length of tag 1, then by that of tag 2, and so on to tag 8. The length of a tag is how many symbols have it.

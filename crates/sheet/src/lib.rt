@@ -4,7 +4,7 @@
 ghost use Rattle.std.specs.Prelude.{◌≡◌, ℕ, length, replicate, if◌then◌else◌, None, ◌≢◌};
 ghost use Rattle.sheet.specs.Entries.{is_tag, entry, with_entry};
 
-/// There are at most so many tags, numbered from 1 on.
+/// There are at most so many tags, numbered from 1 on. (`pattern` and `ranking` have the same number; a sheet stands apart from both.)
 pub const TAGS: usize = 8;
 
 /// The symbols of a line from `left` up to `right`, without that one.

@@ -19,6 +19,7 @@ pub enum Refusal {
     NoMatch,
 }
 
+// By hand, since a derived `From` has no contract, and contracts name what a `?` makes.
 impl From<Fault> for Refusal {
     ghost from_gives = { λ f r. r ≡ Unlawful f };
 
@@ -38,7 +39,7 @@ impl fmt::Display for Refusal {
 impl Error for Refusal {}
 
 impl Refusal {
-    // The number under which a refusal is reported.
+    // The number under which a refusal is reported. By hand, since a case that holds a value has no discriminant of its own.
     pub fn number(self) -> u8
         ensures { result ≡ refusal_number self }
     {

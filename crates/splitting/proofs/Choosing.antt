@@ -1,12 +1,14 @@
 -- The choice among some candidates, and one more that is higher in number than all of them.
 use Rattle.std.proofs.Common.{◌≡◌, ℕ, ◌<◌, Bool, cond, ◌⊎◌, Ordering, Less, Equal, Greater, sym, refl, ap, ◌∙◌, subst, inl, inr}
+use lib.Bits.{bit_and}
 use Rattle.std.specs.Ordering.{ordering_reverse, is_le, is_gt}
 use Rattle.automaton.specs.Bit.{In}
 use Rattle.automaton.specs.PositionSets.{Lowest}
+use Rattle.automaton.proofs.Bits.{in_and}
 use Rattle.ranking.specs.Laws.{Near, Lawful}
 use Rattle.ranking.proofs.Orders.{less_under, under_less}
 use Rattle.splitting.specs.Choice.{Pick, Wins}
-use Rattle.splitting.proofs.BitLoops.{Left, given, given_done, done_more, done_still}
+use Rattle.splitting.proofs.BitLoops.{Left, given, given_done, done_more, done_still, left_next}
 
 module _ {M : Type 0} {start : M} {stepped : M → ℕ → M} {compared : M → M → Ordering} (law : Lawful start stepped compared) (m : ℕ → M)
     (Old New : ℕ → Type 0) (n r : ℕ) (k : Pick compared m Old r) (member : New n) (still : (p : ℕ) → Old p → New p) (now : (p : ℕ) → New p → (p ≡ n) ⊎ Old p)
@@ -56,3 +58,9 @@ module _ {M : Type 0} {compared : M → M → Ordering} {m : ℕ → M} {among r
       preferred law m (Done among rest) (Done among left) p r k (given l n, given_done l n) (λ q d. (d.0, done_still l n q d.1))
       (λ q d. elim (done_more l n q d.0 d.1) [ inl e ↦ inl e | inr f ↦ inr (d.0, f) ])
       (λ q d. l.rising q p d.0 d.1 n.one) (λ q d. near q d.0)
+
+-- the choice among the live positions of a set that are done, after one turn more
+pub turned : {M : Type 0} {start : M} {stepped : M → ℕ → M} {compared : M → M → Ordering} {m : ℕ → M} {rest p left r : ℕ} → Lawful start stepped compared → (live set : ℕ)
+    → ((q : ℕ) → In live q → Near start stepped 160 (m q)) → Left (bit_and live set) rest → Lowest rest p left → Pick compared m (Done (bit_and live set) rest) r
+    → (b : Bool) → b ≡ is_gt (compared (m p) (m r)) → Left (bit_and live set) left × Pick compared m (Done (bit_and live set) left) (cond b p r)
+turned law live set near l n k b t = (left_next l n, chosen l n law (λ q e. near q (in_and {x = live} {y = set} e).0) k b t)

@@ -121,11 +121,13 @@ module _ {M : Type 0} {start : M} {stepped : M → ℕ → M} {compared : M → 
           complete q [] l f = and_in {x = a.first} {y = row} f.2 (of_may q f.1)
           complete q (o ∷ v) l f = absurd (omega (arith, l))
 
-    pub first_cells : (i row : ℕ) (measures : List M) (back : List (List ℕ)) → i ≡ 0 → ((q : ℕ) → In row q → (q < 64) × (may i q ≡ true)) → ((q : ℕ) → may i q ≡ true → In row q)
-        → ((q : ℕ) → In (bit_and a.first row) q → get_or measures q start ≡ stepped start (get_or tags q 0))
-        → Cells start stepped compared a tags may (i + 1) (bit_and a.first row) measures back
-    first_cells zero row measures back z may_of of_may set' = begun row measures back may_of of_may set'
-    first_cells (suc i) row measures back z may_of of_may set' = absurd (omega (arith, z))
+    pub first_cells : (i row positions : ℕ) (measures : List M) (back : List (List ℕ)) → i ≡ 0 → positions ≡ bit_and a.first row
+        → ((q : ℕ) → In row q → (q < 64) × (may i q ≡ true)) → ((q : ℕ) → may i q ≡ true → In row q)
+        → ((q : ℕ) → In positions q → get_or measures q start ≡ stepped start (get_or tags q 0))
+        → Cells start stepped compared a tags may (i + 1) positions measures back
+    first_cells zero row positions measures back z e may_of of_may set' =
+        subst (λ l. Cells start stepped compared a tags may 1 l measures back) (sym e) (begun row measures back may_of of_may (λ q x. set' q (subst (λ l. In l q) (sym e) x)))
+    first_cells (suc i) row positions measures back z e may_of of_may set' = absurd (omega (arith, z))
 
     -- one symbol more
     module _ (j live row positions : ℕ) (measures after : List M) (back : List (List ℕ)) (previous : List ℕ) (h : suc j < 160) (inside : suc j < length back)

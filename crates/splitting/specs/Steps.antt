@@ -5,6 +5,10 @@ use Rattle.std.specs.Ordering.{is_gt}
 use Rattle.automaton.specs.Bit.{In}
 use Rattle.splitting.specs.Choice.{Pick}
 
+-- the measure of each position, where a list has them in order; the start for a position past its end
+abbrev pub measure_of : {M : Type 0} → M → List M → ℕ → M
+measure_of start measures p = slice_index_or measures p start
+
 -- p was offered to each position of the set `onto` as the one before it: it stands there where none stood, and where its measure is
 -- higher than that of the one that stood there; nothing else is changed
 pub record Offered {M : Type 0} (compared : M → M → Ordering) (m : ℕ → M) (p onto reached : ℕ) (before after : List ℕ) : Type 0 where

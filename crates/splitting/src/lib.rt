@@ -15,7 +15,7 @@ use std::mem::swap;
 
 mod sweep;
 
-use sweep::{Fronts, Reached, begin, walk_back};
+use sweep::{Fronts, walk_back};
 
 /// Why no trail is written.
 #[derive(Clone, Copy, Debug, PartialEq, Eq)]
@@ -35,6 +35,7 @@ pub enum Unsplit {
 ///
 /// With `Ok` the trail stands at the front of `trail`, as the numbers of the tests, each one more than its position; what stands
 /// behind is as it was. An `Err` leaves `trail` as it was.
+// Codes, tags and automaton are three arguments, which go by position, since a caller has them apart and lends them as they are.
 pub fn best_trail<A: Alphabet, R: Ranking>(
     alphabet: &A,
     codes: &[u32],
@@ -62,36 +63,14 @@ pub fn best_trail<A: Alphabet, R: Ranking>(
     let mut back = [[0; POSITIONS]; MOST_SYMBOLS];
     let mut live = 0;
     for (i, symbol) in stretch.iter().enumerate() {
-        let row = row(alphabet, codes, symbol);
-        if i == 0 {
-            live = automaton.first & row;
-            begin(ranking, tags, live, measures);
-        } else {
-            let fronts = Fronts {
-                ranking,
-                tags,
-                symbols: i,
-                back: &back,
-                live,
-                measures,
-            };
-            let Reached {
-                positions,
-                previous,
-            } = fronts.advance(automaton, row, spare);
-            live = positions;
-            back[i] = previous;
-            swap(&mut measures, &mut spare);
-        }
+        let fronts = Fronts::new(ranking, tags, i, &back, live, measures);
+        let reached = fronts.advance(automaton, row(alphabet, codes, symbol), spare);
+        let previous = reached.previous;
+        live = reached.positions;
+        back[i] = previous;
+        swap(&mut measures, &mut spare);
     }
-    let fronts = Fronts {
-        ranking,
-        tags,
-        symbols,
-        back: &back,
-        live,
-        measures,
-    };
+    let fronts = Fronts::new(ranking, tags, symbols, &back, live, measures);
     let Some(last) = fronts.best_in(automaton.last) else {
         return Err(Unsplit::NoTrail);
     };
@@ -109,6 +88,15 @@ mod tests {
     const A: u32 = 353;
 
     const ANY: u32 = 65536;
+
+    fn automaton(first: u64, last: u64, follow: [u64; 64], nullable: bool) -> Automaton {
+        Automaton {
+            first,
+            last,
+            follow,
+            nullable,
+        }
+    }
 
     fn by_extent(
         automaton: &Automaton,
@@ -135,12 +123,7 @@ mod tests {
     fn leader_leads_nowhere(rt: HostRuntime) {
         let mut follow = [0; 64];
         follow[1] = 4;
-        let automaton = Automaton {
-            first: 3,
-            last: 4,
-            follow,
-            nullable: false,
-        };
+        let automaton = automaton(3, 4, follow, false);
         let mut tags = [0; 64];
         tags[0] = 255;
         let mut trail = [9; 4];
@@ -154,12 +137,7 @@ mod tests {
     // All trails rank equal: the smaller positions come first, from the last symbol back.
     #[test]
     fn ties(rt: HostRuntime) {
-        let automaton = Automaton {
-            first: 3,
-            last: 3,
-            follow: [3; 64],
-            nullable: false,
-        };
+        let automaton = automaton(3, 3, [3; 64], false);
         let mut trail = [9; 4];
         assert_eq!(rt;
             by_extent(&automaton, &[A, ANY], &[1; 64], b"aab", &mut trail),
@@ -170,12 +148,7 @@ mod tests {
 
     #[test]
     fn none(rt: HostRuntime) {
-        let automaton = Automaton {
-            first: 1,
-            last: 3,
-            follow: [1; 64],
-            nullable: true,
-        };
+        let automaton = automaton(1, 3, [1; 64], true);
         let mut trail = [9; 4];
         assert_eq!(rt;
             by_extent(&automaton, &[A, ANY], &[1; 64], b"ab", &mut trail),
@@ -192,12 +165,7 @@ mod tests {
     // tags in their order the one with tag 1 ranks higher.
     #[test]
     fn equal_by_one_ranking(rt: HostRuntime) {
-        let automaton = Automaton {
-            first: 3,
-            last: 4,
-            follow: [4; 64],
-            nullable: false,
-        };
+        let automaton = automaton(3, 4, [4; 64], false);
         let mut tags = [0; 64];
         tags[0] = 2;
         tags[1] = 1;
@@ -219,12 +187,7 @@ mod tests {
 
     #[test]
     fn no_room(rt: HostRuntime) {
-        let automaton = Automaton {
-            first: 1,
-            last: 1,
-            follow: [1; 64],
-            nullable: true,
-        };
+        let automaton = automaton(1, 1, [1; 64], true);
         let mut trail = [9; 161];
         assert_eq!(rt;
             by_extent(&automaton, &[ANY], &[0; 64], &[b'x'; 161], &mut trail),

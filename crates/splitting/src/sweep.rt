@@ -5,7 +5,7 @@ ghost use Rattle.std.specs.Ordering.{is_gt};
 ghost use Rattle.automaton.specs.Bit.{In};
 ghost use Rattle.ranking.specs.Laws.{Near};
 ghost use Rattle.splitting.specs.Choice.{Pick};
-ghost use Rattle.splitting.specs.Steps.{Offered, Preceded, Stepped, Low, back_from, rank_back};
+ghost use Rattle.splitting.specs.Steps.{measure_of, Offered, Preceded, Stepped, Low, back_from, rank_back};
 
 use automaton::{Automaton, MOST_SYMBOLS, POSITIONS, Positions};
 use ranking::Ranking;
@@ -19,23 +19,49 @@ pub(crate) struct Reached {
 
 // The best fronts of so many symbols, one for each position in which a front ends.
 #[derive(Drop)]
-pub(crate) struct Fronts<'a, R: Ranking> {
-    pub(crate) ranking: &'a R,
-    pub(crate) tags: &'a [u8; POSITIONS],
-    pub(crate) symbols: usize,
+pub(crate) struct Fronts<'r, 't, 'w, R: Ranking> {
+    ranking: &'r R,
+    tags: &'t [u8; POSITIONS],
+    symbols: usize,
     // Row i has for each position at the symbol i the one at the symbol before.
-    pub(crate) back: &'a [[u8; POSITIONS]; MOST_SYMBOLS],
+    back: &'w [[u8; POSITIONS]; MOST_SYMBOLS],
     // The positions in which a front ends, and the measure of the best front that ends in each.
-    pub(crate) live: u64,
-    pub(crate) measures: &'a [R::Measure],
+    live: u64,
+    measures: &'w [R::Measure],
     ghost short: { symbols ≤ 160 },
     ghost low: { (q : ℕ) → In live q → q < 64 },
+    // By slices: the borrow checker does not cover the loop with arrays by `as_chunks_mut`, nor by `split_first_chunk_mut`.
     ghost room: { 64 ≤ length measures.now },
     ghost sets: { (q : ℕ) → slice_index tags.now q < 256 },
     ghost measured: { (q : ℕ) → In live q → slice_index_or measures.now q (R.start ranking.now) ≡ rank_back (R.start ranking.now) (R.stepped ranking.now) tags.now (back_from back.now symbols q) },
 }
 
-impl<'a, R: Ranking> Fronts<'a, R> {
+impl<'r, 't, 'w, R: Ranking> Fronts<'r, 't, 'w, R> {
+    pub(crate) fn new(
+        ranking: &'r R,
+        tags: &'t [u8; POSITIONS],
+        symbols: usize,
+        back: &'w [[u8; POSITIONS]; MOST_SYMBOLS],
+        live: u64,
+        measures: &'w [R::Measure],
+    ) -> Self
+        requires room { (symbols ≤ 160) × (64 ≤ length measures.now) }
+        requires low { (q : ℕ) → In live q → q < 64 }
+        requires sets { (q : ℕ) → slice_index tags.now q < 256 }
+        requires measured { (q : ℕ) → In live q → slice_index_or measures.now q (R.start ranking.now) ≡ rank_back (R.start ranking.now) (R.stepped ranking.now) tags.now (back_from back.now symbols q) }
+        ensures lent { (result.ranking.now ≡ ranking.now) × (result.tags.now ≡ tags.now) × (result.measures.now ≡ measures.now) }
+        ensures reached { (result.symbols ≡ symbols) × (result.live ≡ live) }
+    {
+        Fronts {
+            ranking,
+            tags,
+            symbols,
+            back,
+            live,
+            measures,
+        }
+    }
+
     // The measure of the front that ends in p.
     fn measure(&self, p: usize) -> &R::Measure
         requires { In self.now.live p }
@@ -59,7 +85,7 @@ impl<'a, R: Ranking> Fronts<'a, R> {
     fn offer(&self, p: usize, onto: u64, reached: u64, previous: &mut [u8; POSITIONS])
         requires live_p { In self.now.live p }
         requires live_reached { (q : ℕ) → In reached q → In self.now.live (slice_index previous.old q) }
-        ensures { Offered (R.compared self.now.ranking.now) (λ p. slice_index_or self.now.measures.now p (R.start self.now.ranking.now)) p onto reached previous.old previous.new }
+        ensures { Offered (R.compared self.now.ranking.now) (measure_of (R.start self.now.ranking.now) self.now.measures.now) p onto reached previous.old previous.new }
     {
         for q in Positions::of(onto) {
             if (reached >> q) % 2 == 0 || self.is_higher(p, previous[q] as usize) {
@@ -71,7 +97,7 @@ impl<'a, R: Ranking> Fronts<'a, R> {
     // The positions of a row that may follow a live one, and for each the live one before it whose measure is highest, the smallest
     // among equals.
     fn follow_on(&self, automaton: &Automaton, row: u64) -> Reached
-        ensures { Preceded (R.compared self.now.ranking.now) (λ p. slice_index_or self.now.measures.now p (R.start self.now.ranking.now)) automaton.now.follow self.now.live row result.positions result.previous }
+        ensures { Preceded (R.compared self.now.ranking.now) (measure_of (R.start self.now.ranking.now) self.now.measures.now) automaton.now.follow self.now.live row result.positions result.previous }
     {
         let mut positions = 0;
         let mut previous = [0; POSITIONS];
@@ -98,7 +124,17 @@ impl<'a, R: Ranking> Fronts<'a, R> {
         }
     }
 
-    // The positions that are reached at one symbol more, by its row, with their measures.
+    // Sets the measures of the positions at which a trail begins.
+    fn begin(&self, begun: u64, after: &mut [R::Measure])
+        requires { 64 ≤ length after.old }
+        ensures { (q : ℕ) → In begun q → slice_index_or after.new q (R.start self.now.ranking.now) ≡ R.stepped self.now.ranking.now (R.start self.now.ranking.now) (slice_index self.now.tags.now q) }
+    {
+        for q in Positions::of(begun) {
+            after[q] = self.ranking.step(self.ranking.start(), self.tags[q]);
+        }
+    }
+
+    // The positions that are reached at one symbol more, by its row, with their measures. At the first symbol a trail begins.
     pub(crate) fn advance(
         &self,
         automaton: &Automaton,
@@ -106,9 +142,20 @@ impl<'a, R: Ranking> Fronts<'a, R> {
         after: &mut [R::Measure],
     ) -> Reached
         requires room { (self.now.symbols < 160) × (64 ≤ length after.old) }
-        ensures preceded { Preceded (R.compared self.now.ranking.now) (λ p. slice_index_or self.now.measures.now p (R.start self.now.ranking.now)) automaton.now.follow self.now.live row result.positions result.previous }
-        ensures stepped { Stepped (R.start self.now.ranking.now) (R.stepped self.now.ranking.now) self.now.tags.now result.positions result.previous self.now.measures.now after.new }
+        ensures low { (q : ℕ) → slice_index result.previous q < 64 }
+        ensures first { self.now.symbols ≡ 0 → result.positions ≡ bit_and automaton.now.first row }
+        ensures begun { self.now.symbols ≡ 0 → (q : ℕ) → In result.positions q → slice_index_or after.new q (R.start self.now.ranking.now) ≡ R.stepped self.now.ranking.now (R.start self.now.ranking.now) (slice_index self.now.tags.now q) }
+        ensures preceded { 0 < self.now.symbols → Preceded (R.compared self.now.ranking.now) (measure_of (R.start self.now.ranking.now) self.now.measures.now) automaton.now.follow self.now.live row result.positions result.previous }
+        ensures stepped { 0 < self.now.symbols → Stepped (R.start self.now.ranking.now) (R.stepped self.now.ranking.now) self.now.tags.now result.positions result.previous self.now.measures.now after.new }
     {
+        if self.symbols == 0 {
+            let positions = automaton.first & row;
+            self.begin(positions, after);
+            return Reached {
+                positions,
+                previous: [0; POSITIONS],
+            };
+        }
         let reached = self.follow_on(automaton, row);
         self.set_measures(&reached, after);
         reached
@@ -116,7 +163,7 @@ impl<'a, R: Ranking> Fronts<'a, R> {
 
     // Of the live positions in a set the one whose measure is highest, the smallest among equals.
     pub(crate) fn best_in(&self, set: u64) -> Option<usize>
-        ensures { MatchOption result (bit_and self.now.live set ≡ 0) (λ b. Pick (R.compared self.now.ranking.now) (λ p. slice_index_or self.now.measures.now p (R.start self.now.ranking.now)) (In (bit_and self.now.live set)) b) }
+        ensures { MatchOption result (bit_and self.now.live set ≡ 0) (λ b. Pick (R.compared self.now.ranking.now) (measure_of (R.start self.now.ranking.now) self.now.measures.now) (In (bit_and self.now.live set)) b) }
     {
         let mut positions = Positions::of(self.live & set);
         let mut best = positions.next()?;
@@ -126,21 +173,6 @@ impl<'a, R: Ranking> Fronts<'a, R> {
             }
         }
         Some(best)
-    }
-}
-
-// Sets the measures of the positions at which a trail begins.
-pub(crate) fn begin<R: Ranking>(
-    ranking: &R,
-    tags: &[u8; POSITIONS],
-    begun: u64,
-    measures: &mut [R::Measure],
-)
-    requires { 64 ≤ length measures.old }
-    ensures { (q : ℕ) → In begun q → slice_index_or measures.new q (R.start ranking.now) ≡ R.stepped ranking.now (R.start ranking.now) (slice_index tags.now q) }
-{
-    for q in Positions::of(begun) {
-        measures[q] = ranking.step(ranking.start(), tags[q]);
     }
 }
 

@@ -5,6 +5,8 @@ ghost use Rattle.arrayvec.specs.ArrayVec.{array_vec_len};
 use crate::appending::append;
 use arrayvec::ArrayVec;
 
+// Beside `Text`, which it is like but for the room: what they share is `ArrayVec` and `append`, and one generic type would hand each the
+// other's methods.
 #[derive(Drop)]
 pub struct LineBuffer<const MOST: usize> {
     bytes: ArrayVec<u8, MOST>,

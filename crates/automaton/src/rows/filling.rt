@@ -16,9 +16,9 @@ impl Rows {
         }
     }
 
+    // A bool and no error, which would have one value and say no more.
     /// Adds the row of one symbol more. Where there are 160 rows already it says `false`, and adds nothing.
     #[tactic(auto, unfolding(crate::specs::RowList::rows_of))]
-    // A `bool`, since an error type would have one value, which says no more than `false`.
     pub fn push(&mut self, row: u64) -> bool
         ensures { elim result [ true ↦ rows_of self.new ≡ rows_of self.old ++ (row ∷ []) | false ↦ (rows_of self.new ≡ rows_of self.old) × (length (rows_of self.old) ≡ 160) ] }
     {

@@ -1,16 +1,15 @@
-use Rattle.std.proofs.Common.{◌≡◌, ℕ, ◌<◌, ◌≤◌, List, ◌++◌, length, get_or, take, drop, append-nil, refl, ap, ◌∙◌, subst, arith, rules}
+use Rattle.std.proofs.Common.{◌≡◌, ℕ, ◌<◌, ◌≤◌, List, ◌++◌, length, take, drop, append-nil, refl, ap, ◌∙◌, subst, inl, inr, arith, rules}
 use lib.Bits.{bit_and}
 use Rattle.std.proofs.Math.Seq.{drop-length, take-length}
+use Rattle.std.proofs.lemmas.Bool.{cases_eq}
 use Rattle.std.proofs.lemmas.List.{length-set, length-take}
 use Rattle.automaton.specs.Bit.{In}
 use Rattle.automaton.proofs.Bits.{in_and, and_in, in_zero}
-use Rattle.splitting.specs.Steps.{Preceded, Stepped}
 use Rattle.splitting.specs.Trails.{Room}
 use Rattle.splitting.proofs.Optimal.{no_cells, first_cells, next_cells}
 use Rattle.splitting.proofs.Tables.{low_none, low_set}
 use Rattle.splitting.proofs.Whole.{row_may, may_row, empty_best, missing, found}
 use Rattle.splitting.proofs.best_trail.Goals as goal
-use Rattle.splitting.proofs.best_trail.Goals.{then-i-eq0, else-i-eq0}
 
 pub returns-then-automaton : goal.returns-then-automaton
 returns-then-automaton g c = ((omega (arith, c.if-symbols-gt-MOST_SYMBOLS.false), omega (arith, c.if-trail-symbols.false), omega (arith, c.if-work.false)), empty_best _ c.if-symbols-eq0.true c.if-automaton.true)
@@ -38,33 +37,26 @@ loop-i-preserved g c =
     let inside : c.loop-i.i < length c.args.stretch.now = c.loop-i-test.true in
     let short : c.loop-i.i < 160 = omega (arith, inside, c.if-symbols-gt-MOST_SYMBOLS.false) in
     let here : c.loop-i.i < length c.loop-i.back = omega (arith, short, inv.rows) in
-    let may_of = row_may _ _ c.args.stretch.now c.loop-i.i _ _ inside c.index-stretch-i.is c.row-row.ensures in
-    let of_may = may_row _ _ c.args.stretch.now c.loop-i.i _ _ inside c.index-stretch-i.is c.row-row.ensures in
-    elim c.if-i-eq0.branch [
-      | then-i-eq0 w ↦
-          (let e : c.if-i-eq0.measures.now ≡ w.begin.new.measures = ap (λ m. m.now) w.measures-is ∙ whole w.begin.new.measures c.loop-i.measures.now in
-          let spare : c.if-i-eq0.spare.now ≡ c.loop-i.spare.now = ap (λ m. m.now) w.spare-is in
-          rw (e, spare, w.back-is, w.live-is) (record {
-            rows = inv.rows;
-            low = inv.low;
-            room = (roomy w.begin.new.measures c.loop-i.measures.now w.begin.auto.measures inv.room.0, inv.room.1);
-            cells = first_cells law _ c.fits-tags _ _ c.loop-i.i _ _ _ w.if-i-eq0.true may_of of_may w.begin.ensures;
-          }))
-      | else-i-eq0 w ↦
-          (let e : c.if-i-eq0.measures.now ≡ w.advance-positions.new.after = ap (λ m. m.now) (w.measures-is ∙ w.swap.ensures.x_after) ∙ whole w.advance-positions.new.after c.loop-i.spare.now in
-          let spare : c.if-i-eq0.spare.now ≡ c.loop-i.measures.now = ap (λ m. m.now) (w.spare-is ∙ w.swap.ensures.y_after) in
-          let pos : 0 < c.loop-i.i = omega (arith, w.if-i-eq0.false) in
-          let preceded = subst (λ ms. Preceded (g.R.Ranking.compared c.args.ranking.now) (λ p. get_or ms p (g.R.Ranking.start c.args.ranking.now)) c.args.automaton.now.follow c.loop-i.live c.row-row.result w.advance-positions.result.positions w.advance-positions.result.previous)
-          (take-length c.loop-i.measures.now) w.advance-positions.ensures.preceded in
-          let stepped = subst (λ ms. Stepped (g.R.Ranking.start c.args.ranking.now) (g.R.Ranking.stepped c.args.ranking.now) c.args.tags.now w.advance-positions.result.positions w.advance-positions.result.previous ms w.advance-positions.new.after)
-          (take-length c.loop-i.measures.now) w.advance-positions.ensures.stepped in
-          rw (e, spare, w.back-is, w.live-is) (record {
-            rows = length-set c.loop-i.back i w.advance-positions.result.previous ∙ inv.rows;
-            low = low_set c.loop-i.back i w.advance-positions.result.previous here preceded.low inv.low;
-            room = (roomy w.advance-positions.new.after c.loop-i.spare.now w.advance-positions.auto.after inv.room.1, inv.room.0);
-            cells = next_cells law _ c.fits-tags _ _ c.loop-i.i _ _ _ _ _ _ _ pos short here may_of of_may inv.cells preceded stepped;
-          }))
-    ]
+    let may_of = row_may _ _ c.args.stretch.now c.loop-i.i _ _ inside c.index-stretch-i.is c.row.ensures in
+    let of_may = may_row _ _ c.args.stretch.now c.loop-i.i _ _ inside c.index-stretch-i.is c.row.ensures in
+    let fronts = c.new-fronts.ensures in
+    let next = c.advance-reached in
+    let same : c.new-fronts.result.measures.now ≡ c.loop-i.measures.now = fronts.lent.2 ∙ take-length c.loop-i.measures.now in
+    let e : c.swap.new.x.now ≡ c.advance-reached.new.after = ap (λ m. m.now) c.swap.ensures.x_after ∙ whole next.new.after c.loop-i.spare.now in
+    let spare : c.swap.new.y.now ≡ c.loop-i.measures.now = ap (λ m. m.now) c.swap.ensures.y_after in
+    rw (e, spare) (record {
+      rows = length-set c.loop-i.back i next.result.previous ∙ inv.rows;
+      low = low_set c.loop-i.back i next.result.previous here next.ensures.low inv.low;
+      room = (roomy next.new.after c.loop-i.spare.now next.auto.after inv.room.1, inv.room.0);
+      cells = elim (cases_eq c.loop-i.i 0) [
+        | inl z ↦ first_cells law _ c.fits-tags _ _ c.loop-i.i _ _ _ _ z (next.ensures.first (fronts.reached.0 ∙ z)) may_of of_may
+            (rw (fronts.lent.0, fronts.lent.1) at (next.ensures.begun (fronts.reached.0 ∙ z)))
+        | inr n ↦
+            (let later : 0 < c.new-fronts.result.symbols = omega (arith, fronts.reached.0, n) in
+            next_cells law _ c.fits-tags _ _ c.loop-i.i _ _ _ _ _ _ _ (omega (arith, n)) short here may_of of_may inv.cells
+            (rw (fronts.lent.0, same, fronts.reached.1) at (next.ensures.preceded later)) (rw (fronts.lent.0, fronts.lent.1, same) at (next.ensures.stepped later)))
+      ];
+    })
 
 -- a set that has nothing in common with another
 no_both : (x y p : ℕ) → bit_and x y ≡ 0 → In x p → In y p → ⊥
@@ -73,7 +65,7 @@ no_both x y p z e f = in_zero (subst (λ s. In s p) z (and_in {x = x} {y = y} e 
 pub returns-in_default : goal.returns-in_default
 returns-in_default g c =
     let end : c.loop-i.i ≡ length c.args.stretch.now = omega (arith, c.loop-i-test.false, c.loop-i.auto.i-end) in
-    let z = c.in_default.ensures in
+    let z = rw (c.new-fronts-2.ensures.reached.1) at c.in_default.ensures in
     ((omega (arith, c.if-symbols-gt-MOST_SYMBOLS.false), omega (arith, c.if-trail-symbols.false), omega (arith, c.if-work.false)), missing (g.met.R.Ranking.lawful c.args.ranking.now) c.fits-tags c.if-symbols-eq0.false (rw end at c.loop-i.invariant.cells) (λ q e f. search (rules, no_both)), refl)
 
 -- a position that may end a trail is live
@@ -82,19 +74,21 @@ live_one x y p e = (in_and {x = x} {y = y} e).0
 
 pub overflow_cast-last : goal.overflow_cast-last
 overflow_cast-last g c =
-    let e = c.in-Some.ensures.candidate in
+    let e = rw (c.new-fronts-2.ensures.reached.1) at c.in-Some.ensures.candidate in
     let k : In c.loop-i.live c.in-Some.last = search (rules, live_one) in
     omega (arith, c.loop-i.invariant.cells.low c.in-Some.last k)
 
 pub walk_back-requires-clause-room : goal.walk_back-requires-clause-room
 walk_back-requires-clause-room g c =
-    let e = c.in-Some.ensures.candidate in
+    let e = rw (c.new-fronts-2.ensures.reached.1) at c.in-Some.ensures.candidate in
     let k : In c.loop-i.live c.in-Some.last = search (rules, live_one) in
     (c.loop-i.invariant.cells.low c.in-Some.last k, omega (arith, length-take (length c.args.stretch.now) c.args.trail.now))
 
 pub returns : goal.returns
 returns g c =
+    let fronts = c.new-fronts-2.ensures in
+    let same : c.new-fronts-2.result.measures.now ≡ c.loop-i.measures.now = fronts.lent.2 ∙ take-length c.loop-i.measures.now in
     let end : c.loop-i.i ≡ length c.args.stretch.now = omega (arith, c.loop-i-test.false, c.loop-i.auto.i-end) in
-    let pick = c.in-Some.ensures in
+    let pick = rw (fronts.lent.0, same, fronts.reached.1) at c.in-Some.ensures in
     let room : Room (length c.args.stretch.now) (length c.args.trail.now) (length c.args.work.now) = (omega (arith, c.if-symbols-gt-MOST_SYMBOLS.false), omega (arith, c.if-trail-symbols.false), omega (arith, c.if-work.false)) in
-    (room, found (g.met.R.Ranking.lawful c.args.ranking.now) c.fits-tags c.if-symbols-eq0.false (rw end at c.loop-i.invariant.cells) c.in-Some.last (rw (take-length c.loop-i.measures.now) at pick) _ _ room.0 room.1 c.walk_back.ensures)
+    (room, found (g.met.R.Ranking.lawful c.args.ranking.now) c.fits-tags c.if-symbols-eq0.false (rw end at c.loop-i.invariant.cells) c.in-Some.last pick _ _ room.0 room.1 c.walk_back.ensures)

@@ -1,12 +1,9 @@
 use Rattle.std.proofs.Common.{◌≤◌, length, sym, subst, MatchResult}
 use Rattle.std.proofs.lemmas.Result.{err_from_is_err_and}
 use Rattle.cue.specs.Answers.{IsRecord}
-use Rattle.cue.proofs.RoundTrip.{round_trip, accepted, refused}
+use Rattle.cue.proofs.RoundTrip.{accepted, refused}
 use Rattle.cue.proofs.Filling.{all_bytes}
 use Rattle.cue.proofs.reading.read.Goals as goal
-
-pub returns-then-symbols-marks-clause-round_trip : goal.returns-then-symbols-marks-clause-round_trip
-returns-then-symbols-marks-clause-round_trip c = round_trip c.args.symbols c.args.bytes.now (all_bytes c.args.bytes.now (λ i. (c.type_inv.bytes i).fits))
 
 pub returns-in_err-found-clause-exactly_the_records : goal.returns-in_err-found-clause-exactly_the_records
 returns-in_err-found-clause-exactly_the_records c =
@@ -14,11 +11,5 @@ returns-in_err-found-clause-exactly_the_records c =
     subst (λ r. MatchResult r (λ _. IsRecord c.args.symbols c.args.bytes.now) (λ _. c.args.symbols ≤ 160 → c.args.symbols ≤ length c.args.marks.now → IsRecord c.args.symbols c.args.bytes.now → ⊥))
     (sym p.1) (λ h l is. refused c.args.symbols c.args.bytes.now c.in_err-found.field-0.0 c.in_err-found.ensures is)
 
-pub returns-in_err-found-clause-round_trip : goal.returns-in_err-found-clause-round_trip
-returns-in_err-found-clause-round_trip c = round_trip c.args.symbols c.args.bytes.now (all_bytes c.args.bytes.now (λ i. (c.type_inv.bytes i).fits))
-
 pub returns-clause-exactly_the_records : goal.returns-clause-exactly_the_records
 returns-clause-exactly_the_records c = accepted c.args.symbols c.args.bytes.now _ _ (all_bytes c.args.bytes.now (λ i. (c.type_inv.bytes i).fits)) c.if-symbols-gt-MOST_SYMBOLS.false c.in_ok-found.ensures
-
-pub returns-clause-round_trip : goal.returns-clause-round_trip
-returns-clause-round_trip c = round_trip c.args.symbols c.args.bytes.now (all_bytes c.args.bytes.now (λ i. (c.type_inv.bytes i).fits))

@@ -6,7 +6,7 @@ use Rattle.std.proofs.lemmas.List.{take_all}
 use Rattle.text.proofs.Chains.{◌then◌, read_as, alone}
 use Rattle.proofreading.specs.Reports.{number_lines}
 use Rattle.proofreading.proofs.Lengths.{report_fits}
-use Rattle.proofreading.proofs.Pushes.{length-from_one, lines_more}
+use Rattle.proofreading.proofs.Pushes.{length_from_one, lines_more}
 use Rattle.proofreading.proofs.report.write_report.Goals as goal
 
 pub returns : goal.returns
@@ -16,7 +16,7 @@ returns c =
     (YieldsList-from_skip 1 (YieldsList-at c.skip-number-items.ensures.source (YieldsList-from_enumerate (YieldsList-at c.enumerate.ensures.source (YieldsList-from_slice ks c.iter.ensures.rest)) c.enumerate.ensures.count)) c.skip-number-items.ensures.count) in
     let end = YieldsList-end road c.loop-number.yielded _ c.loop-number.yielded_by _ _ c.in-None.is c.next.ensures.steps in
     let sixteen : length ks ≡ 16 = omega arith in
-    let all : length (drop 1 ks) ≤ length c.loop-number.yielded = omega (arith, end.1, length-from_one ks) in
+    let all : length (drop 1 ks) ≤ length c.loop-number.yielded = omega (arith, end.1, length_from_one ks) in
     let text = c.write_head.ensures then read_as (ap (number_lines 1) (take_all (length c.loop-number.yielded) (drop 1 ks) all)) c.loop-number.invariant in
     alone c.clear.ensures text (report_fits c.args.tally.now sixteen)
 

@@ -1,7 +1,7 @@
 use Rattle.std.proofs.Common.{true, false}
 use Rattle.automaton.proofs.Bits.{in_and}
-use Rattle.splitting.proofs.BitLoops.{given, left_next}
-use Rattle.splitting.proofs.Choosing.{chosen}
+use Rattle.splitting.proofs.BitLoops.{given}
+use Rattle.splitting.proofs.Choosing.{turned}
 use Rattle.splitting.proofs.Nearness.{live_near}
 use Rattle.splitting.proofs.sweep.Fronts.best_in.Goals as goal
 
@@ -14,18 +14,14 @@ pub loop-p-preserved : goal.loop-p-preserved
 loop-p-preserved g c =
     let f = c.args.self.now in
     let inv = c.loop-p.invariant in
-    let next = c.in-Some.ensures.steps in
-    let near = live_near (g.R.Ranking.start f.ranking.now) (g.R.Ranking.stepped f.ranking.now) f.tags.now f.sets f.back.now f.symbols f.live f.measures.now f.short f.measured in record {
-      left = left_next inv.left next;
-      best = chosen inv.left next (g.met.R.Ranking.lawful f.ranking.now) (λ q e. near q (in_and {x = f.live} {y = c.args.set} e).0) inv.best false c.if-is_higher.ensures;
-    }
+    let near = live_near (g.R.Ranking.start f.ranking.now) (g.R.Ranking.stepped f.ranking.now) f.tags.now f.sets f.back.now f.symbols f.live f.measures.now f.short f.measured in
+    let next = turned (g.met.R.Ranking.lawful f.ranking.now) f.live c.args.set near inv.left c.in-Some.ensures.steps inv.best false c.if-is_higher.ensures in
+    record { left = next.0; best = next.1 }
 
 pub loop-p-preserved-then-is_higher : goal.loop-p-preserved-then-is_higher
 loop-p-preserved-then-is_higher g c =
     let f = c.args.self.now in
     let inv = c.loop-p.invariant in
-    let next = c.in-Some.ensures.steps in
-    let near = live_near (g.R.Ranking.start f.ranking.now) (g.R.Ranking.stepped f.ranking.now) f.tags.now f.sets f.back.now f.symbols f.live f.measures.now f.short f.measured in record {
-      left = left_next inv.left next;
-      best = chosen inv.left next (g.met.R.Ranking.lawful f.ranking.now) (λ q e. near q (in_and {x = f.live} {y = c.args.set} e).0) inv.best true c.if-is_higher.ensures;
-    }
+    let near = live_near (g.R.Ranking.start f.ranking.now) (g.R.Ranking.stepped f.ranking.now) f.tags.now f.sets f.back.now f.symbols f.live f.measures.now f.short f.measured in
+    let next = turned (g.met.R.Ranking.lawful f.ranking.now) f.live c.args.set near inv.left c.in-Some.ensures.steps inv.best true c.if-is_higher.ensures in
+    record { left = next.0; best = next.1 }

@@ -13,7 +13,8 @@ ghost use Rattle.std.proofs.Common.{rules};
 
 use crate::{Alphabet, Cause, Notation};
 
-// A test is a run of bytes, in which 0 comes after 255. Its number is its first byte, and 256 times how many bytes it has.
+// A test is a run of bytes, in which 0 comes after 255. Its number is its first byte, and 256 times how many bytes it has. This is a
+// number and no struct, since the trait has each alphabet keep a test as one number.
 const BYTES: u32 = 256;
 
 #[derive(Clone, Copy)]

@@ -41,6 +41,7 @@ impl Cause {
     }
 }
 
+// By hand, since a derived message has no contract, and `output` tells what is printed.
 impl fmt::Display for Cause {
     ghost output = { λ cause. Some (cause_words cause) };
 

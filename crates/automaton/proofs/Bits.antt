@@ -2,7 +2,7 @@
 use Rattle.std.proofs.Common.{◌≡◌, ℕ, zero, suc, ◌+◌, ◌-◌, ◌*◌, ◌/◌, ◌%◌, ◌^◌, ◌<◌, ◌≤◌, ◌⊎◌, sym, refl, ap, ◌∙◌, subst, inl, inr, one-mul, pow-suc, one-add, arith, pow_mono}
 use lib.Bits.{bit_and, bit_or, bit_xor, and_zero_l, and_zero_r, or_zero_l, xor_add_and}
 use lib.Count.{count_trailing_zeros, under}
-use Rattle.std.proofs.lemmas.Nat.{pow_pos, div_below, shr-shr, and_shr, or_shr, xor_shr, and_mod, or_mod, xor_mod, and_mask, or_lt, pow-add, pow_below, shl-shr}
+use Rattle.std.proofs.lemmas.Nat.{pow_pos, div_below, shr-shr, and_shr, or_shr, xor_shr, and_mod, or_mod, xor_mod, and_mask, pow-add, pow_below, shl-shr}
 use Rattle.std.proofs.lemmas.Bool.{cases_eq, cases_lt}
 use Rattle.automaton.specs.Bit.{In}
 use Rattle.automaton.specs.PositionSets.{Lowest}

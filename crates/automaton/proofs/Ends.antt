@@ -1,5 +1,5 @@
 -- What the groups say of the stretches.
-use Rattle.std.proofs.Common.{◌≡◌, ℕ, ◌+◌, ◌-◌, ◌<◌, ◌≤◌, ◌⊎◌, true, false, Bool, cond, ltb, Option, Some, None, IfSome, MatchOption, true≢false, List, [], ◌∷◌, length, get_or, take, length-take, get_or-take, sym, refl, ap, ◌∙◌, subst, inl, inr, arith}
+use Rattle.std.proofs.Common.{◌≡◌, ℕ, ◌+◌, ◌-◌, ◌<◌, ◌≤◌, ◌⊎◌, true, cond, ltb, Option, Some, None, MatchOption, List, [], ◌∷◌, length, get_or, take, length-take, get_or-take, sym, refl, ap, ◌∙◌, subst, inl, inr, arith}
 use lib.Bits.{bit_and, and_zero_l}
 use Rattle.std.specs.List.{AllWithin, HoldsAt}
 use Rattle.std.proofs.lemmas.List.{get_or_past}
@@ -89,14 +89,22 @@ module _ (a : Automaton) (rows : List ℕ) where
   inside m s (empty e n z) = n
   inside m s (walk q w v) = (later a rows m s q w).1
 
-  pub best_begun : (b : Bool) → a.nullable ≡ b → Best a rows 0 (cond b (Some (0, 0)) None)
-  best_begun true z = record {
-    ordered = omega arith;
-    within = omega arith;
-    reads = empty refl (omega arith) z;
-    ahead = λ m s h w. inr (omega arith, omega arith);
+  -- a stretch stays ahead with one symbol more, where it is ahead of those that end at that symbol and are not empty
+  still_ahead : (i : ℕ) (x : ℕ × ℕ) → Head a rows i x → ((m : ℕ) → m < i + 1 → Ends a rows m (i + 1) → Ahead x (m, i + 1)) → Head a rows (i + 1) x
+  still_ahead i x b over = record {
+    ordered = b.ordered;
+    within = omega (arith, b.within);
+    reads = b.reads;
+    ahead = λ m s h w. elim (cases_lt i s) [
+      | inl new ↦
+          (let is : s ≡ i + 1 = omega arith in
+          elim (shape m s w) [
+            | inl y ↦ elim (cases_lt x.0 x.1) [ inl z ↦ inl (omega (arith, y.0)) | inr z ↦ inr (omega (arith, y.0), omega (arith, y.0, b.within, b.ordered)) ]
+            | inr y ↦ subst (λ n. Ahead x (m, n)) (sym is) (over m (omega arith) (subst (λ n. Ends a rows m n) is w))
+          ])
+      | inr old ↦ b.ahead m s old w
+    ];
   }
-  best_begun false f = λ m s h w. elim (shape m s w) [ inl y ↦ true≢false (sym y.1 ∙ f) | inr y ↦ omega arith ]
 
   -- one symbol more, at which no stretch ends but empty ones
   pub best_none : (i : ℕ) (o : Option (ℕ × ℕ)) → Best a rows i o → Earliest a rows (i + 1) None → Best a rows (i + 1) o
@@ -107,20 +115,7 @@ module _ (a : Automaton) (rows : List ℕ) where
       | inr old ↦ b m s old w
     ]
   ]
-  best_none i (Some x) b n = record {
-    ordered = b.ordered;
-    within = omega (arith, b.within);
-    reads = b.reads;
-    ahead = λ m s h w. elim (cases_lt i s) [
-      | inl new ↦
-          (let is : s ≡ i + 1 = omega arith in
-          elim (shape m s w) [
-            | inl y ↦ elim (cases_lt x.0 x.1) [ inl z ↦ inl (omega (arith, y.0)) | inr z ↦ inr (omega (arith, y.0), omega (arith, y.0, b.within, b.ordered)) ]
-            | inr y ↦ absurd (n m (omega arith) (subst (λ n. Ends a rows m n) is w))
-          ])
-      | inr old ↦ b.ahead m s old w
-    ];
-  }
+  best_none i (Some x) b n = still_ahead i x b (λ m h w. absurd (n m h w))
 
   module _ (i e : ℕ) (f : First a rows (i + 1) e) where
     -- a stretch that ends at the new symbol and is longer than those before
@@ -143,26 +138,13 @@ module _ (a : Automaton) (rows : List ℕ) where
     }
 
     -- one symbol more, at which e is the least start
-    pub best_some : (o best : Option (ℕ × ℕ)) → Best a rows i o → MatchOption o (best ≡ Some (e, i + 1)) (λ x. best ≡ cond (ltb (x.1 - x.0) (i + 1 - e)) (Some (e, i + 1)) (Some x)) → Best a rows (i + 1) best
-    best_some None best b is = subst (Best a rows (i + 1)) (sym is) (longest_new (λ m s h w. absurd (b m s h w)))
-    best_some (Some x) best b is = subst (Best a rows (i + 1)) (sym is) (elim (cases_lt (x.1 - x.0) (i + 1 - e)) [
-      | inl l ↦ subst (λ c. Best a rows (i + 1) (cond c (Some (e, i + 1)) (Some x))) (sym (lt-ltb (x.1 - x.0) (i + 1 - e) l)) (longest_new (λ m s h w. elim (b.ahead m s h w) [ inl y ↦ omega (arith, y) | inr y ↦ omega (arith, y.0) ]))
-      | inr g ↦ subst (λ c. Best a rows (i + 1) (cond c (Some (e, i + 1)) (Some x))) (sym (le-ltb (x.1 - x.0) (i + 1 - e) g)) (record {
-        ordered = b.ordered;
-        within = omega (arith, b.within);
-        reads = b.reads;
-        ahead = λ m s h w. elim (cases_lt i s) [
-          | inl new ↦
-              (let is : s ≡ i + 1 = omega arith in
-              elim (shape m s w) [
-                | inl y ↦ elim (cases_lt x.0 x.1) [ inl z ↦ inl (omega (arith, y.0)) | inr z ↦ inr (omega (arith, y.0), omega (arith, y.0, b.within, b.ordered)) ]
-                | inr y ↦
-                    (let low = f.first m (omega arith) (subst (λ n. Ends a rows m n) is w) in
-                    elim (cases_lt (s - m) (x.1 - x.0)) [ inl z ↦ inl z | inr z ↦ inr (omega arith, omega (arith, b.within, b.ordered)) ])
-              ])
-          | inr old ↦ b.ahead m s old w
-        ];
-      })
+    pub best_some : (o : Option (ℕ × ℕ)) (best : ℕ × ℕ) → Best a rows i o → MatchOption o (best ≡ (e, i + 1)) (λ x. best ≡ cond (ltb (x.1 - x.0) (i + 1 - e)) (e, i + 1) x) → Best a rows (i + 1) (Some best)
+    best_some None best b is = subst (Head a rows (i + 1)) (sym is) (longest_new (λ m s h w. absurd (b m s h w)))
+    best_some (Some x) best b is = subst (Head a rows (i + 1)) (sym is) (elim (cases_lt (x.1 - x.0) (i + 1 - e)) [
+      | inl l ↦ subst (λ c. Head a rows (i + 1) (cond c (e, i + 1) x)) (sym (lt-ltb (x.1 - x.0) (i + 1 - e) l)) (longest_new (λ m s h w. elim (b.ahead m s h w) [ inl y ↦ omega (arith, y) | inr y ↦ omega (arith, y.0) ]))
+      | inr g ↦ subst (λ c. Head a rows (i + 1) (cond c (e, i + 1) x)) (sym (le-ltb (x.1 - x.0) (i + 1 - e) g)) (still_ahead i x b (λ m h w.
+          let low = f.first m h w in
+          elim (cases_lt (i + 1 - m) (x.1 - x.0)) [ inl z ↦ inl z | inr z ↦ inr (omega arith, omega (arith, b.within, b.ordered)) ]))
     ])
 
   -- all symbols are read
@@ -172,14 +154,6 @@ module _ (a : Automaton) (rows : List ℕ) where
     reads = reads a rows x.0 x.1 b.reads;
     ahead = λ m s w. (let e = ends a rows m s w in b.ahead m s (omega (arith, inside m s e)) e);
   }
-
--- the same of the automaton and the line of a sweep
-pub earliest_of : (a b : Automaton) (rows line : List ℕ) (i j : ℕ) (o : Option ℕ) → a ≡ b → rows ≡ line → i ≡ j → Earliest a rows i o → Earliest b line j o
-earliest_of a b rows line i j o ea er ei w = subst (λ x. Earliest x line j o) ea (subst (λ x. Earliest a x j o) er (subst (λ x. Earliest a rows x o) ei w))
-
-pub best_ordered : (a : Automaton) (rows : List ℕ) (i : ℕ) (o : Option (ℕ × ℕ)) → Best a rows i o → IfSome o (λ x. x.0 ≤ x.1)
-best_ordered a rows i None b = tt
-best_ordered a rows i (Some x) b = b.ordered
 
 -- the first group with a last position has the least start, and where there is none, no stretch ends but empty ones
 module _ (a : Automaton) (rows : List ℕ) (r : ℕ) (g : Active) (tr : Tracks a rows r g) where

@@ -2,4 +2,5 @@ pub mod Bits
 pub mod BitTests
 mod Turns
 mod Ends
+mod Sweeps
 mod Marking

@@ -1,5 +1,5 @@
 -- What the functions of the sweep keep from symbol to symbol.
-use Rattle.std.specs.Prelude.{◌≡◌, ℕ, ◌+◌, ◌<◌, ◌≤◌, true, List, length, Option, Some, None, slice_index}
+use Rattle.std.specs.Prelude.{◌≡◌, ℕ, ◌+◌, ◌<◌, ◌≤◌, true, List, length, Option, Some, None, MatchOption, slice_index}
 use Rattle.automaton.specs.declared.machine.Automaton.{Automaton}
 use Rattle.automaton.specs.declared.sweep.Active.{Active}
 use Rattle.automaton.specs.declared.sweep.Sweep.{Sweep}
@@ -39,3 +39,9 @@ pub record Tracks (a : Automaton) (rows : List ℕ) (i : ℕ) (g : Active) : Typ
 -- the groups of a sweep are those after the symbols that it has read
 abbrev pub Swept : Sweep → Type 0
 Swept s = Tracks s.automaton.now s.rows.now s.read s.active
+
+-- a call of `next` reads one symbol more, and gives its place and the least start of a stretch that ends after it and reads; where all
+-- are read it gives `None`
+abbrev pub GivesEarliest : Sweep → Option (ℕ × Option ℕ) → Sweep → Type 0
+GivesEarliest s r t = MatchOption r ((s.read ≡ length s.rows.now) × (t ≡ s))
+    (λ x. (x.0 ≡ s.read) × (t.automaton ≡ s.automaton) × (t.rows ≡ s.rows) × (t.read ≡ s.read + 1) × Earliest s.automaton.now s.rows.now t.read x.1)

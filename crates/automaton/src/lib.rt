@@ -18,6 +18,7 @@ pub use rows::Rows;
 pub const POSITIONS: usize = 64;
 
 /// A line has at most so many symbols.
+// 160 stands here and again in `cue`, which stands on nothing of the automaton, and would have to for a number.
 pub const MOST_SYMBOLS: usize = 160;
 
 #[cfg(test)]

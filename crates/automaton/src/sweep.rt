@@ -1,4 +1,5 @@
 ghost use Rattle.std.specs.Prelude.{◌≡◌, ℕ, ◌+◌, ◌<◌, ◌≤◌, length, MatchOption, IfSome, Some, None, if◌then◌else◌, nat_lt, ◌-◌, slice_index, slice_index_or};
+ghost use Rattle.std.specs.Iterator.{at_most};
 ghost use Rattle.automaton.specs.Bit.{In};
 ghost use Rattle.automaton.specs.RowList.{rows_of};
 ghost use Rattle.automaton.specs.Reads.{Reads};
@@ -11,8 +12,8 @@ use crate::{MOST_SYMBOLS, POSITIONS};
 
 // The positions that walks have reached, in groups by the start of the walk. A position that is reached from several starts stands in
 // the group of the least, so the groups have no position in common.
-// Two arrays and a count for speed: with an `ArrayVec` of groups the case `opt160` of `bench` took twice as long, with an array of groups
-// a tenth longer, and with either of them longer than with RE2.
+// Two arrays and a count for speed: with an `ArrayVec` of groups the case `opt160` of `bench` took twice as long as with these, and with an
+// array of groups a tenth longer.
 #[derive(Drop)]
 struct Active {
     count: usize,
@@ -98,17 +99,12 @@ impl<'a> Sweep<'a> {
         self.read += 1;
     }
 
-    // Reads the next symbol, and answers the least start of a stretch that ends after it and reads. Always in line, since where it is
-    // called the case `opt160` of `bench` takes longer than with RE2.
+    // The least start of a stretch that ends after the last symbol that was read, and reads.
     #[inline(always)]
-    fn turn(&mut self) -> Option<u8>
-        requires more { self.old.read < length self.old.rows.now }
-        requires swept { Swept self.old }
-        ensures swept { Swept self.new }
-        ensures next { (self.new.automaton ≡ self.old.automaton) × (self.new.rows ≡ self.old.rows) × (self.new.read ≡ self.old.read + 1) }
-        ensures earliest { Earliest self.old.automaton.now self.old.rows.now (self.old.read + 1) result }
+    fn earliest(&self) -> Option<u8>
+        requires { Swept self.now }
+        ensures { Earliest self.now.automaton.now self.now.rows.now self.now.read result }
     {
-        self.advance();
         let groups = &self.active;
         let last = self.automaton.last;
         let k = groups.sets[..groups.count]
@@ -118,15 +114,40 @@ impl<'a> Sweep<'a> {
     }
 }
 
+// Each symbol's place, and the least start of a stretch that ends after the symbol and reads. The sweep gives the place, since with
+// `enumerate` five of the seven cases of `bench` take longer by a sixth or more.
+impl Iterator for Sweep<'_> {
+    ghost use Rattle.automaton.specs.Tracks.{Swept, GivesEarliest};
+
+    type Item = (usize, Option<u8>);
+
+    ghost can_next = { Swept };
+
+    ghost next_gives = { GivesEarliest };
+
+    ghost remaining = { λ s. at_most (length s.rows.now - s.read) };
+
+    // Always in line, and `earliest` too: with one function for both, which was called, the case `opt160` of `bench` took an eighth longer.
+    #[inline(always)]
+    fn next(&mut self) -> Option<(usize, Option<u8>)> {
+        let i = self.read;
+        if i == self.rows.len() {
+            return None;
+        }
+        self.advance();
+        Some((i, self.earliest()))
+    }
+}
+
 // The stretch that was found before, or another one where there was none or that one is longer.
-fn longer(best: Option<(usize, usize)>, start: usize, end: usize) -> Option<(usize, usize)>
+fn longer(best: Option<(usize, usize)>, start: usize, end: usize) -> (usize, usize)
     requires ordered { IfSome best (λ x. x.0 ≤ x.1) }
     requires after { start ≤ end }
-    ensures { MatchOption best (result ≡ Some (start, end)) (λ x. result ≡ (if nat_lt (x.1 - x.0) (end - start) then Some (start, end) else Some x)) }
+    ensures { MatchOption best (result ≡ (start, end)) (λ x. result ≡ (if nat_lt (x.1 - x.0) (end - start) then (start, end) else x)) }
 {
     match best {
-        Some((l, r)) if r - l >= end - start => best,
-        _ => Some((start, end)),
+        Some((l, r)) if r - l >= end - start => (l, r),
+        _ => (start, end),
     }
 }
 
@@ -138,10 +159,9 @@ impl Automaton {
         requires { length rows.now ≤ 160 }
         ensures { (i : ℕ) → i < length rows.now → Earliest self.now rows.now (i + 1) (slice_index_or result i None) }
     {
-        let mut sweep = Sweep::new(self, rows);
         let mut out = [None; MOST_SYMBOLS];
-        for least in &mut out[..rows.len()] {
-            *least = sweep.turn();
+        for (i, least) in Sweep::new(self, rows) {
+            out[i] = least;
         }
         out
     }
@@ -151,12 +171,10 @@ impl Automaton {
         ensures { MatchOption result (NoneReads (Reads self.now (rows_of rows.now))) (λ x. Longest (Reads self.now (rows_of rows.now)) x) }
     {
         let line = rows.as_slice();
-        let mut sweep = Sweep::new(self, line);
-        let mut best = if self.nullable { Some((0, 0)) } else { None };
-        // By index: each turn reads the next symbol by itself, and a stretch ends behind it.
-        for i in 0..line.len() {
-            if let Some(start) = sweep.turn() {
-                best = longer(best, start as usize, i + 1);
+        let mut best = self.nullable.then_some((0, 0));
+        for (i, least) in Sweep::new(self, line) {
+            if let Some(start) = least {
+                best = Some(longer(best, start as usize, i + 1));
             }
         }
         best
@@ -174,7 +192,7 @@ impl Automaton {
         let leasts = self.leasts(line);
         let mut low = line.len();
         let mut count = 0;
-        // By index, which the test compares; and after an adapter of `iter_mut` a proof would know nothing of what was written.
+        // By index, which the test compares; and after `zip` or `rev` of `iter_mut` a proof is told nothing of what was written.
         for i in (0..line.len()).rev() {
             if let Some(start) = leasts[i] {
                 low = low.min(start as usize);

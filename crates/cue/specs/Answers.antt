@@ -11,6 +11,10 @@ use Rattle.cue.specs.Marks.{marks}
 use Rattle.cue.specs.Records.{record_of, all_fit}
 use Rattle.cue.specs.Cues.{Cues, next, good, bad, cues_of}
 
+-- the refusal with which writing and reading begin, if one is due: by the line's length, by the room for the marks
+abbrev pub line_check : ℕ → ℕ → Result (Unit {0}) Refusal
+line_check symbols room = cond (nat_le symbols 160) (cond (nat_le symbols room) (Ok tt) (Err BufferTooShort)) (Err LineTooLong)
+
 -- the record that is written, or the refusal: by the line's length, by the room of the marks, by the parts, by the room of the output
 abbrev pub writing : ℕ → List ℕ → List (Option Part) → ℕ → Result (List ℕ) Refusal
 writing symbols given entries room =

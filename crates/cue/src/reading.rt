@@ -5,7 +5,7 @@ ghost use Rattle.cue.specs.Contents.{Fits, With};
 
 use crate::MOST_SYMBOLS;
 use crate::cursor::{Cue, Cursor, MarkedRun};
-use crate::refusal::{Fault, Refusal};
+use crate::refusal::{Fault, Refusal, check_line};
 use sheet::Sheet;
 
 // The marks and parts of a record, as far as it is read.
@@ -65,12 +65,7 @@ pub fn read(
     ensures exactly_the_records { MatchResult result (λ _. IsRecord symbols bytes.now) (λ _. symbols ≤ 160 → symbols ≤ length marks.old → IsRecord symbols bytes.now → ⊥) }
     ensures round_trip { RoundTrip symbols bytes.now }
 {
-    if symbols > MOST_SYMBOLS {
-        return Err(Refusal::LineTooLong);
-    }
-    if symbols > marks.len() {
-        return Err(Refusal::BufferTooShort);
-    }
+    check_line(symbols, marks.len())?;
     let found = content_of(bytes, symbols)?;
     marks[0..symbols].copy_from_slice(&found.marks[0..symbols]);
     *sheet = found.sheet;

@@ -1,8 +1,10 @@
 // Why bytes are no cue record, and why a call is turned down.
-ghost use Rattle.std.specs.Prelude.{◌≡◌, Some};
+ghost use Rattle.std.specs.Prelude.{◌≡◌, ◌≤◌, Some, IfOk};
+ghost use Rattle.cue.specs.Answers.{line_check};
 ghost use Rattle.cue.specs.Faults.{fault_number, fault_words, fault_offset, refusal_number, refusal_words, refusal_offset};
 ghost use Rattle.cue.specs.declared.refusal.Refusal.TheVariants.{NoRecord};
 
+use crate::MOST_SYMBOLS;
 use std::error::Error;
 use std::fmt;
 
@@ -35,6 +37,7 @@ impl From<Fault> for Refusal {
     }
 }
 
+// By hand, since a derived message has no contract, and `output` tells what is printed.
 impl fmt::Display for Fault {
     ghost output = { λ fault. Some (fault_words fault) };
 
@@ -45,6 +48,7 @@ impl fmt::Display for Fault {
 
 impl Error for Fault {}
 
+// By hand, since a derived message has no contract, and `output` tells what is printed.
 impl fmt::Display for Refusal {
     ghost output = { λ refusal. Some (refusal_words refusal) };
 
@@ -125,4 +129,19 @@ impl Refusal {
             _ => None,
         }
     }
+}
+
+// Whether a call may go on with a line of so many symbols, where there is room for so many marks.
+pub(crate) fn check_line(symbols: usize, room: usize) -> Result<(), Refusal>
+    ensures refusal_that_is_due { result ≡ line_check symbols room }
+    ensures within { IfOk result (λ _. (symbols ≤ 160) × (symbols ≤ room)) }
+{
+    // Both bounds, since a line may have fewer symbols than there is room for marks, and a refusal tells so.
+    if symbols > MOST_SYMBOLS {
+        return Err(Refusal::LineTooLong);
+    }
+    if symbols > room {
+        return Err(Refusal::BufferTooShort);
+    }
+    Ok(())
 }

@@ -6,8 +6,7 @@ ghost use Rattle.cue.specs.Marks.{runs_of, RunsOf};
 ghost use Rattle.cue.specs.Records.{run_bytes, parts_from, part_bytes, record_of, fits, all_fit};
 ghost use Rattle.cue.specs.Answers.{writing, WrittenAfter};
 
-use crate::MOST_SYMBOLS;
-use crate::refusal::Refusal;
+use crate::refusal::{Refusal, check_line};
 use sheet::{Part, Sheet};
 use text::buffer::Text;
 
@@ -114,13 +113,7 @@ pub fn write(marks: &[u8], sheet: &Sheet, symbols: usize, out: &mut [u8]) -> Res
     ensures runs_of_the_marks { RunsOf (take symbols marks.now) }
     ensures numbers_in_shortest_form { (n : ℕ) → Shortest n (leb128 n) }
 {
-    // Both bounds, since a line may have fewer symbols than there is room for marks, and a refusal tells so.
-    if symbols > MOST_SYMBOLS {
-        return Err(Refusal::LineTooLong);
-    }
-    if symbols > marks.len() {
-        return Err(Refusal::BufferTooShort);
-    }
+    check_line(symbols, marks.len())?;
     let entries = sheet.entries();
     if !parts_fit(entries, symbols) {
         return Err(Refusal::PartMisfits);

@@ -7,11 +7,12 @@ use std::process::Abort;
 use std::test::Fail;
 use text::buffer::Text;
 
-// The fault that is due where a byte comes twice, and those where it is changed to 0, to one more, to 128 and to 255: none where the
-// record is good again.
+// The faults that are due where a byte comes twice, where it is missing, and where it is changed to 0, to one more, to 128 and to 255:
+// none where the record is good again.
 #[derive(Clone, Copy)]
 struct Due {
     twice: Fault,
+    missing: Option<Fault>,
     changed: [Option<Fault>; 4],
 }
 
@@ -21,6 +22,7 @@ const SHORT: [u8; 14] = [3, 1, 2, 1, 3, 1, 1, 2, 1, 1, 2, 3, 4, 3];
 const SHORT_DAMAGED: [Due; 14] = [
     Due {
         twice: BrokenRule(5),
+        missing: Some(BrokenRule(7)),
         changed: [
             Some(BrokenRule(5)),
             Some(BrokenRule(7)),
@@ -30,6 +32,7 @@ const SHORT_DAMAGED: [Due; 14] = [
     },
     Due {
         twice: BrokenRule(11),
+        missing: Some(BrokenRule(6)),
         changed: [
             None,
             Some(BrokenRule(6)),
@@ -39,6 +42,7 @@ const SHORT_DAMAGED: [Due; 14] = [
     },
     Due {
         twice: BrokenRule(6),
+        missing: Some(BrokenRule(11)),
         changed: [
             Some(BrokenRule(2)),
             Some(BrokenRule(6)),
@@ -48,6 +52,7 @@ const SHORT_DAMAGED: [Due; 14] = [
     },
     Due {
         twice: BrokenRule(11),
+        missing: Some(BrokenRule(6)),
         changed: [
             Some(BrokenRule(3)),
             Some(BrokenRule(6)),
@@ -57,6 +62,7 @@ const SHORT_DAMAGED: [Due; 14] = [
     },
     Due {
         twice: BrokenRule(5),
+        missing: Some(BrokenRule(11)),
         changed: [
             Some(BrokenRule(4)),
             Some(BrokenRule(6)),
@@ -66,6 +72,7 @@ const SHORT_DAMAGED: [Due; 14] = [
     },
     Due {
         twice: BrokenRule(11),
+        missing: Some(BrokenRule(6)),
         changed: [
             Some(BrokenRule(5)),
             Some(BrokenRule(6)),
@@ -75,6 +82,7 @@ const SHORT_DAMAGED: [Due; 14] = [
     },
     Due {
         twice: BrokenRule(11),
+        missing: Some(BrokenRule(6)),
         changed: [
             Some(BrokenRule(6)),
             Some(BrokenRule(6)),
@@ -84,6 +92,7 @@ const SHORT_DAMAGED: [Due; 14] = [
     },
     Due {
         twice: BrokenRule(11),
+        missing: Some(BrokenRule(11)),
         changed: [
             Some(BrokenRule(8)),
             Some(CutShort(14)),
@@ -93,6 +102,7 @@ const SHORT_DAMAGED: [Due; 14] = [
     },
     Due {
         twice: BrokenRule(14),
+        missing: Some(CutShort(13)),
         changed: [
             Some(BrokenRule(8)),
             None,
@@ -102,10 +112,12 @@ const SHORT_DAMAGED: [Due; 14] = [
     },
     Due {
         twice: BrokenRule(14),
+        missing: Some(CutShort(13)),
         changed: [None, None, Some(BrokenRule(9)), Some(BrokenRule(9))],
     },
     Due {
         twice: BrokenRule(14),
+        missing: Some(CutShort(13)),
         changed: [
             Some(BrokenRule(10)),
             None,
@@ -115,6 +127,7 @@ const SHORT_DAMAGED: [Due; 14] = [
     },
     Due {
         twice: BrokenRule(14),
+        missing: Some(CutShort(13)),
         changed: [
             Some(BrokenRule(11)),
             None,
@@ -124,10 +137,12 @@ const SHORT_DAMAGED: [Due; 14] = [
     },
     Due {
         twice: BrokenRule(14),
+        missing: Some(CutShort(13)),
         changed: [None, None, Some(BrokenRule(12)), Some(BrokenRule(12))],
     },
     Due {
         twice: BrokenRule(14),
+        missing: Some(CutShort(13)),
         changed: [
             Some(BrokenRule(13)),
             None,
@@ -143,6 +158,7 @@ const LONG: [u8; 9] = [1, 3, 150, 1, 1, 2, 130, 1, 30];
 const LONG_DAMAGED: [Due; 9] = [
     Due {
         twice: BrokenRule(9),
+        missing: Some(BrokenRule(5)),
         changed: [
             Some(BrokenRule(2)),
             Some(BrokenRule(8)),
@@ -152,14 +168,17 @@ const LONG_DAMAGED: [Due; 9] = [
     },
     Due {
         twice: BrokenRule(9),
+        missing: Some(BrokenRule(5)),
         changed: [None, None, Some(LongNumber(1)), Some(LongNumber(1))],
     },
     Due {
         twice: LongNumber(2),
+        missing: None,
         changed: [Some(BrokenRule(2)), None, None, Some(BrokenRule(2))],
     },
     Due {
         twice: BrokenRule(9),
+        missing: Some(BrokenRule(5)),
         changed: [
             Some(LongNumber(2)),
             Some(BrokenRule(2)),
@@ -169,6 +188,7 @@ const LONG_DAMAGED: [Due; 9] = [
     },
     Due {
         twice: BrokenRule(9),
+        missing: Some(BrokenRule(5)),
         changed: [
             Some(BrokenRule(5)),
             Some(CutShort(9)),
@@ -178,6 +198,7 @@ const LONG_DAMAGED: [Due; 9] = [
     },
     Due {
         twice: BrokenRule(9),
+        missing: Some(BrokenRule(5)),
         changed: [
             Some(BrokenRule(5)),
             None,
@@ -187,6 +208,7 @@ const LONG_DAMAGED: [Due; 9] = [
     },
     Due {
         twice: LongNumber(6),
+        missing: None,
         changed: [
             Some(BrokenRule(8)),
             Some(BrokenRule(8)),
@@ -196,6 +218,7 @@ const LONG_DAMAGED: [Due; 9] = [
     },
     Due {
         twice: BrokenRule(9),
+        missing: Some(BrokenRule(6)),
         changed: [
             Some(LongNumber(6)),
             Some(BrokenRule(6)),
@@ -205,6 +228,7 @@ const LONG_DAMAGED: [Due; 9] = [
     },
     Due {
         twice: BrokenRule(9),
+        missing: Some(CutShort(8)),
         changed: [
             Some(BrokenRule(8)),
             Some(BrokenRule(8)),
@@ -259,13 +283,15 @@ fn joined(
 fn check_damages(rt: &impl Abort, good: &[u8], symbols: usize, due: &[Due]) -> Result<(), Fail> {
     assert_eq!(rt; fault_of(rt, good, symbols)?, None);
     assert_eq!(rt; due.len(), good.len());
-    for (k, byte) in good.iter().enumerate() {
-        let one = due[k];
-        let front = &good[..k];
-        let back = &good[k + 1..];
+    for (k, one) in due.iter().enumerate() {
+        let Some((front, [byte, back @ ..])) = good.split_at_checked(k) else {
+            assert!(rt; false);
+            return Ok(());
+        };
         assert_eq!(rt; fault_of(rt, front, symbols)?, Some(CutShort(k)));
         let twice = joined(rt, front, &[*byte, *byte], back, symbols)?;
         assert_eq!(rt; twice, Some(one.twice));
+        assert_eq!(rt; joined(rt, front, &[], back, symbols)?, one.missing);
         let changes = [0, byte.saturating_add(1), 128, 255];
         for (change, fault) in changes.iter().zip(&one.changed) {
             assert_eq!(rt; joined(rt, front, &[*change], back, symbols)?, *fault);
@@ -314,6 +340,22 @@ fn read_in_place(rt: HostRuntime) -> Result<(), Fail> {
     assert_eq!(rt; cursor.next(), Ok(None));
     assert_eq!(rt; cursor.next(), Ok(None));
     Ok(())
+}
+
+#[test]
+fn written_and_read(rt: HostRuntime) {
+    let mut sheet = Sheet::new();
+    assert!(rt; sheet.fill(1, Some(Part { left: 1, right: 3 })));
+    assert!(rt; sheet.fill(3, Some(Part { left: 4, right: 7 })));
+    let mut out = [9; 16];
+    let given = [0, 7, 255, 0, 1, 2, 128, 0, 1];
+    assert_eq!(rt; write(&given, &sheet, 9, &mut out), Ok(14));
+    assert_eq!(rt; out, [3, 1, 2, 1, 3, 1, 1, 2, 1, 1, 2, 3, 4, 3, 9, 9]);
+    let mut marks = [7; 10];
+    let mut parts = Sheet::new();
+    assert_eq!(rt; read(&SHORT, 9, &mut marks, &mut parts), Ok(()));
+    assert_eq!(rt; marks, [0, 1, 1, 0, 1, 1, 1, 0, 1, 7]);
+    assert!(rt; parts == sheet);
 }
 
 #[test]

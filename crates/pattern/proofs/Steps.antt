@@ -95,56 +95,49 @@ both : {a b c d : Bool} → a ≡ b → c ≡ d → a || c ≡ b || d
 both {b = b} {c = c} p q = ap (λ x. x || c) p ∙ ap (λ y. b || y) q
 
 -- one part of the reading after another
-pub kept_on : {A E r : Reader} {k₀ k : ℕ} → Kept A k₀ E → Kept E k r → Kept A k r
-kept_on b h =
+onward : {A E r : Reader} {k : ℕ} → source_of E ≡ source_of A → A.pos ≤ E.pos → E.used + 2 * A.pos ≤ A.used + 2 * E.pos → A.used ≤ E.used
+    → ((a : ℕ) (e : Expr) → a < A.used → Stands A.nodes a e → Stands E.nodes a e) → Kept E k r → Kept A k r
+onward same rose room grew stays h =
     record {
-      same = h.same ∙ b.same;
+      same = h.same ∙ same;
       below = h.below;
       rose = omega arith;
       room = omega arith;
       grew = omega arith;
-      stays = λ x e l s. h.stays x e (omega arith) (b.stays x e l s);
+      stays = λ x e l s. h.stays x e (omega arith) (stays x e l s);
     }
+
+pub kept_on : {A E r : Reader} {k₀ k : ℕ} → Kept A k₀ E → Kept E k r → Kept A k r
+kept_on b h = onward b.same b.rose b.room b.grew b.stays h
 
 past_stands : {A r : Reader} {a : ℕ} {e : Expr} → Past A r → Stands A.nodes a e → Stands r.nodes a e
 past_stands {a = a} {e = e} p s = subst (λ ns. Stands ns a e) (sym p.nodes) s
 
 from_past : {A E r : Reader} {k : ℕ} → Past A E → Kept E k r → Kept A k r
-from_past p h =
+from_past p h = onward p.same (omega arith) (omega arith) (omega arith) (λ x e l s. past_stands p s) h
+
+-- what comes behind such a part, with k among its nodes
+further : {A E r : Reader} {j k : ℕ} → Kept A j E → source_of r ≡ source_of E → k < r.used → E.pos ≤ r.pos → r.used + 2 * A.pos ≤ A.used + 2 * r.pos → E.used ≤ r.used
+    → ((a : ℕ) (e : Expr) → a < E.used → Stands E.nodes a e → Stands r.nodes a e) → Kept A k r
+further h same below rose room grew stays =
     record {
-      same = h.same ∙ p.same;
-      below = h.below;
+      same = same ∙ h.same;
+      below = below;
       rose = omega arith;
-      room = omega arith;
+      room = room;
       grew = omega arith;
-      stays = λ x e l s. h.stays x e (omega arith) (past_stands p s);
+      stays = λ x e l s. stays x e (omega arith) (h.stays x e l s);
     }
 
 to_past : {A E r : Reader} {k : ℕ} → Kept A k E → Past E r → Kept A k r
-to_past h p =
-    record {
-      same = p.same ∙ h.same;
-      below = omega arith;
-      rose = omega arith;
-      room = omega arith;
-      grew = omega arith;
-      stays = λ x e l s. past_stands p (h.stays x e l s);
-    }
+to_past h p = further h p.same (omega arith) (omega arith) (omega arith) (omega arith) (λ x e l s. past_stands p s)
 
 -- a node is added where there is room for one
 added_stands : {A r : Reader} {n : Node} {k a : ℕ} {e : Expr} → Added n A k r → a < A.used → Stands A.nodes a e → Stands r.nodes a e
 added_stands {A = A} {r = r} a l s = moved A.nodes r.nodes A.used a.others l s
 
 to_added : {A E r : Reader} {n : Node} {j k : ℕ} → Kept A j E → E.used + 2 * A.pos < A.used + 2 * E.pos → Added n E k r → Kept A k r
-to_added h spare a =
-    record {
-      same = a.same ∙ h.same;
-      below = omega arith;
-      rose = omega arith;
-      room = omega arith;
-      grew = omega arith;
-      stays = λ x e l s. added_stands a (omega arith) (h.stays x e l s);
-    }
+to_added h spare a = further h a.same (omega arith) (omega arith) (omega arith) (omega arith) (λ x e l s. added_stands a l s)
 
 -- a turn over `*`, `+` or `?`
 pub repeat_turn : {E r r₂ r₃ : Reader} {v u : Part} {k : ℕ} {n : Node} → SoFar repeats E v u r → (op : Expr → Expr) → ((e : Expr) → has_tag (op e) ≡ has_tag e) → ((e : Expr) (o : Out) → u.tagged ≡ has_tag e → Parses (source_of r) (repeats (op e)) (r.pos + 1) o → Parses (source_of r) (repeats e) r.pos o) → ((ns : List Node) (j : ℕ) (e : Expr) → node ns j ≡ n → u.root < j → Stands ns u.root e → Stands ns j (op e)) → Past r r₂ → Added n r₂ k r₃ → SoFar repeats E v (record { root = k; tagged = u.tagged }) r₃
@@ -297,8 +290,11 @@ repeated {A = A} {E = E} {d = depth} {u = u} r res d h = MatchResult-weaker res 
         }
 
 -- what is noted of the tests and tags before the reader's place, one token on
-pub codes_kept : (r : Reader) (k : Kind) → kind_here r ≡ k → code_of k ≡ [] → codes_before r.tokens.now (r.pos + 1) ≡ codes_before r.tokens.now r.pos
-codes_kept r k is none = codes_next (source_of r) r.pos k is ∙ ap (λ l. codes_before r.tokens.now r.pos ++ l) none ∙ append-nil _
-
 pub tags_counted : (r : Reader) (k : Kind) → kind_here r ≡ k → r.tags + tag_of k ≡ tags_before r.tokens.now (r.pos + 1)
 tags_counted r k is = ap (λ n. n + tag_of k) r.tags_are ∙ sym (tags_next (source_of r) r.pos k is)
+
+-- one place on, over a token that is no test: it is before the end, the tests are the same, and a tag is counted
+pub over : (r : Reader) (k : Kind) → kind_here r ≡ k → is_end k ≡ false → code_of k ≡ []
+    → (r.pos < length r.tokens.now) × (codes_before r.tokens.now (r.pos + 1) ≡ codes_before r.tokens.now r.pos) × (tags_before r.tokens.now (r.pos + 1) ≡ r.tags + tag_of k)
+over r k is some none =
+    (at_some (source_of r) r.pos k is some, codes_next (source_of r) r.pos k is ∙ ap (λ l. codes_before r.tokens.now r.pos ++ l) none ∙ append-nil _, sym (tags_counted r k is))

@@ -7,10 +7,11 @@ use crate::token::{Kind, Token};
 use alphabet::{Alphabet, Notation};
 use arrayvec::ArrayVec;
 
-// A pattern has at most so many bytes, and no more tokens than bytes.
-pub(crate) const MOST_BYTES: usize = 120;
+/// A pattern has at most so many bytes, and no more tokens than bytes.
+pub const MOST_BYTES: usize = 120;
 
-// The sign that a byte is; whether it is one, for all who ask a notation, is `alphabet`'s `is_sign`. Not a `TryFrom`: a byte that is no sign is no error, and begins a test.
+// The sign that a byte is; whether it is one, for all who ask a notation, is `alphabet`'s `is_sign`. Not a `TryFrom`: a byte that is no
+// sign is no error, and begins a test.
 fn sign(byte: u8) -> Option<Kind>
     ensures { result ≡ sign_kind byte }
 {

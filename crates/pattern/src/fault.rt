@@ -36,6 +36,7 @@ impl From<Misread> for Fault {
     }
 }
 
+// By hand, since a derived message has no contract, and `output` tells what is printed.
 impl fmt::Display for Fault {
     ghost output = { λ fault. Some (fault_words fault) };
 
@@ -47,7 +48,8 @@ impl fmt::Display for Fault {
 impl Error for Fault {}
 
 impl Fault {
-    /// The number under which a fault is reported. By hand, since a case that holds a value has no discriminant of its own.
+    /// The number under which a fault is reported.
+    // By hand, since a case that holds a value has no discriminant of its own.
     pub fn number(self) -> u8
         ensures { result ≡ fault_number self }
     {

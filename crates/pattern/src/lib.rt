@@ -9,3 +9,5 @@ mod positions;
 mod reader;
 mod reading;
 mod token;
+
+pub use cutter::MOST_BYTES;

@@ -54,19 +54,19 @@ impl Reader<'_> {
     ghost use Rattle.pattern.specs.Nodes.{source_of, kind_here, offset_here, Past, Took, Added, Came, Means, Repeated};
 
     // The token at the place; past the last one, the end.
+    #[tactic(auto, using(crate::proofs::Steps::look_in, crate::proofs::Steps::look_past))]
     fn peek(&self) -> Token
         ensures { result ≡ at (source_of self.now) self.now.pos }
     {
-        match self.tokens.get(self.pos) {
-            Some(token) => *token,
-            None => Token {
-                kind: Kind::End,
-                offset: self.end,
-            },
-        }
+        let end = Token {
+            kind: Kind::End,
+            offset: self.end,
+        };
+        self.tokens.get(self.pos).copied().unwrap_or(end)
     }
 
     // One token on, over a sign that opens no tag.
+    #[tactic(auto, using(crate::proofs::Steps::plain, crate::proofs::Steps::over))]
     fn advance(&mut self)
         requires { is_plain (kind_here self.old) ≡ true }
         ensures { Past self.old self.new }
@@ -98,6 +98,7 @@ impl Reader<'_> {
     }
 
     // Over the bracket that opens a tag, which gets the next number.
+    #[tactic(auto, using(crate::proofs::Steps::over))]
     fn open_tag(&mut self) -> Result<u8, Fault>
         requires { kind_here self.old ≡ Kind.OpenTag }
         ensures { MatchResult result (λ n. (self.old.tags < 8) × (n ≡ self.old.tags + 1) × Past self.old self.new) (λ f. (8 ≤ self.old.tags) × (f ≡ Fault.TooManyTags (offset_here self.old))) }

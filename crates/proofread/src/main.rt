@@ -1,14 +1,12 @@
 // Proof-reads a list of patterns, one a line: a verdict on each, then a report.
 #![tactic(auto)]
 
+use proofreading::FRONT;
 use proofreading::proofreader::Proofreader;
 use std::io;
 use std::io::{BufRead, BufReader, BufWriter, Write};
 use text::buffer::Text;
 use text::line::LineBuffer;
-
-// A pattern has at most 120 bytes, so one byte more tells that a line is too long.
-const FRONT: usize = 121;
 
 fn main(rt: HostRuntime) -> io::Result<()> {
     let mut input = BufReader::new(rt.alloc(), rt.stdin())?;

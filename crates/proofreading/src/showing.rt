@@ -3,10 +3,11 @@ ghost use Rattle.std.specs.Prelude.{◌≡◌, ◌<◌, length, take, replicate}
 ghost use Rattle.proofreading.specs.Showing.{hex_digit, prints, shown_byte, shown, pattern_line, caret_line};
 ghost use Rattle.text.specs.Texts.{Adds};
 
+use pattern::MOST_BYTES;
 use text::buffer::Text;
 
-// Of a longer pattern only so many bytes are shown. (As many as a lawful one has; what is shown could be another number.)
-const SHOWN: usize = 120;
+// Of a longer pattern only as many bytes are shown as a pattern may have.
+const SHOWN: usize = MOST_BYTES;
 
 // The first n bytes, or all where there are fewer.
 fn first(bytes: &[u8], n: usize) -> &[u8]

@@ -41,6 +41,8 @@ fn write_cause(out: &mut Text, cause: Option<Cause>)
     }
 }
 
+// Piece by piece, and with the refusal's `words`, not by `write!`: that may answer an error, and its contract does not say what the text
+// holds then.
 fn write_refused(out: &mut Text, bytes: &[u8], refusal: Refusal)
     ensures { Adds out.old (refused_text bytes.now refusal) out.new }
 {

@@ -28,6 +28,7 @@ impl From<Fault> for Refusal {
     }
 }
 
+// By hand, since a derived message has no contract, and `output` tells what is printed.
 impl fmt::Display for Refusal {
     ghost output = { λ refusal. Some (refusal_words refusal) };
 

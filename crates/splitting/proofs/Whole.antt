@@ -1,5 +1,5 @@
 -- The choice at the end of the stretch, and what is answered by it.
-use Rattle.std.proofs.Common.{◌≡◌, ℕ, ◌+◌, ◌<◌, ◌≤◌, min, Bool, true, ltb, List, [], ◌++◌, reverse, length, get_or, take, drop, Ordering, sym, refl, ap, ◌∙◌, subst, arith, ltb-true}
+use Rattle.std.proofs.Common.{◌≡◌, ℕ, ◌+◌, ◌<◌, ◌≤◌, min, Bool, true, false, true≢false, ltb, List, [], ◌++◌, reverse, length, get_or, take, drop, Ordering, sym, refl, ap, ◌∙◌, subst, arith, ltb-true}
 use mathlib.Core.List.{reverse-reverse}
 use lib.Bits.{bit_and}
 use Rattle.std.proofs.lemmas.List.{length-take-le, length-map, length-reverse, nil_from_length}
@@ -14,7 +14,7 @@ use Rattle.ranking.specs.Laws.{Lawful}
 use Rattle.splitting.specs.Choice.{Pick}
 use Rattle.splitting.specs.Steps.{back_from, rank_back}
 use Rattle.splitting.specs.Trails.{Trail, Over, Written, test_numbers}
-use Rattle.splitting.proofs.Fronts.{may_stand, Full, Rules, same, Cells}
+use Rattle.splitting.proofs.Fronts.{may_stand, Ends, Full, Rules, same, Cells}
 use Rattle.splitting.proofs.Nearness.{back_length}
 use Rattle.splitting.proofs.Optimal.{best_full, no_full}
 use Rattle.splitting.proofs.Reading.{stands, to_read, from_read, over_read}
@@ -35,6 +35,9 @@ module _ {S : Type 0} (admits : ℕ → S → Bool) (codes : ℕ) (stretch : Lis
 module _ {S : Type 0} {a : Automaton} {admits : ℕ → S → Bool} {codes : ℕ} {stretch : List S} where
   none_full : ((w : List ℕ) → Full a (may_stand admits codes stretch) (length stretch) w → ⊥) → (t : List ℕ) → Trail a admits codes stretch t → ⊥
   none_full none t x = none (reverse t) (from_read a admits codes stretch t x)
+
+  pub empty_none : length stretch ≡ 0 → a.nullable ≡ false → (t : List ℕ) → Trail a admits codes stretch t → ⊥
+  empty_none e n = none_full (λ w f. true≢false (sym (subst (Ends a) (nil_from_length w (f.whole ∙ e)) f.ends) ∙ n))
 
   module _ {M : Type 0} {start : M} {stepped : M → ℕ → M} {compared : M → M → Ordering} {tags : List ℕ} where
     written : (was w is : List ℕ) → Full a (may_stand admits codes stretch) (length stretch) w

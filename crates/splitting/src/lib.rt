@@ -35,7 +35,7 @@ pub enum Unsplit {
 ///
 /// With `Ok` the trail stands at the front of `trail`, as the numbers of the tests, each one more than its position; what stands
 /// behind is as it was. An `Err` leaves `trail` as it was.
-// Codes, tags and automaton are three arguments, which go by position, since a caller has them apart and lends them as they are.
+// Codes, tags and automaton are three arguments and no struct: nothing else takes them together, and here each goes to another function.
 pub fn best_trail<A: Alphabet, R: Ranking>(
     alphabet: &A,
     codes: &[u32],
@@ -53,11 +53,7 @@ pub fn best_trail<A: Alphabet, R: Ranking>(
         return Err(Unsplit::NoRoom);
     }
     if symbols == 0 {
-        return if automaton.nullable {
-            Ok(())
-        } else {
-            Err(Unsplit::NoTrail)
-        };
+        return automaton.nullable.then_some(()).ok_or(Unsplit::NoTrail);
     }
     let (mut measures, mut spare) = work.split_at_mut(POSITIONS);
     let mut back = [[0; POSITIONS]; MOST_SYMBOLS];
@@ -65,6 +61,7 @@ pub fn best_trail<A: Alphabet, R: Ranking>(
     for (i, symbol) in stretch.iter().enumerate() {
         let fronts = Fronts::new(ranking, tags, i, &back, live, measures);
         let reached = fronts.advance(automaton, row(alphabet, codes, symbol), spare);
+        // By a variable, since the borrow checker does not cover `back[i] = reached.previous`.
         let previous = reached.previous;
         live = reached.positions;
         back[i] = previous;

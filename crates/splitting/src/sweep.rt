@@ -1,6 +1,6 @@
 // One sweep over the symbols of a stretch. For each position that some front of a trail has reached, the sweep keeps the measure of
 // the best front that ends there, and the position that this front had at the symbol before.
-ghost use Rattle.std.specs.Prelude.{◌≡◌, ℕ, ◌+◌, ◌<◌, ◌≤◌, map, reverse, length, bit_and, MatchOption, slice_index, slice_index_or};
+ghost use Rattle.std.specs.Prelude.{◌≡◌, ℕ, ◌+◌, ◌<◌, ◌≤◌, map, reverse, length, bit_and, MatchOption, slice_index};
 ghost use Rattle.std.specs.Ordering.{is_gt};
 ghost use Rattle.automaton.specs.Bit.{In};
 ghost use Rattle.ranking.specs.Laws.{Near};
@@ -19,36 +19,37 @@ pub(crate) struct Reached {
 
 // The best fronts of so many symbols, one for each position in which a front ends.
 #[derive(Drop)]
-pub(crate) struct Fronts<'r, 't, 'w, R: Ranking> {
-    ranking: &'r R,
-    tags: &'t [u8; POSITIONS],
+pub(crate) struct Fronts<'a, R: Ranking> {
+    ranking: &'a R,
+    tags: &'a [u8; POSITIONS],
     symbols: usize,
     // Row i has for each position at the symbol i the one at the symbol before.
-    back: &'w [[u8; POSITIONS]; MOST_SYMBOLS],
+    back: &'a [[u8; POSITIONS]; MOST_SYMBOLS],
     // The positions in which a front ends, and the measure of the best front that ends in each.
     live: u64,
-    measures: &'w [R::Measure],
+    measures: &'a [R::Measure],
     ghost short: { symbols ≤ 160 },
     ghost low: { (q : ℕ) → In live q → q < 64 },
-    // By slices: the borrow checker does not cover the loop with arrays by `as_chunks_mut`, nor by `split_first_chunk_mut`.
+    // A slice and no array of 64: `as_chunks_mut` and `split_first_chunk_mut` ask how many bytes 64 measures take, and of a ranking's
+    // measure that is not known.
     ghost room: { 64 ≤ length measures.now },
     ghost sets: { (q : ℕ) → slice_index tags.now q < 256 },
-    ghost measured: { (q : ℕ) → In live q → slice_index_or measures.now q (R.start ranking.now) ≡ rank_back (R.start ranking.now) (R.stepped ranking.now) tags.now (back_from back.now symbols q) },
+    ghost measured: { (q : ℕ) → In live q → measure_of (R.start ranking.now) measures.now q ≡ rank_back (R.start ranking.now) (R.stepped ranking.now) tags.now (back_from back.now symbols q) },
 }
 
-impl<'r, 't, 'w, R: Ranking> Fronts<'r, 't, 'w, R> {
+impl<'a, R: Ranking> Fronts<'a, R> {
     pub(crate) fn new(
-        ranking: &'r R,
-        tags: &'t [u8; POSITIONS],
+        ranking: &'a R,
+        tags: &'a [u8; POSITIONS],
         symbols: usize,
-        back: &'w [[u8; POSITIONS]; MOST_SYMBOLS],
+        back: &'a [[u8; POSITIONS]; MOST_SYMBOLS],
         live: u64,
-        measures: &'w [R::Measure],
+        measures: &'a [R::Measure],
     ) -> Self
         requires room { (symbols ≤ 160) × (64 ≤ length measures.now) }
         requires low { (q : ℕ) → In live q → q < 64 }
         requires sets { (q : ℕ) → slice_index tags.now q < 256 }
-        requires measured { (q : ℕ) → In live q → slice_index_or measures.now q (R.start ranking.now) ≡ rank_back (R.start ranking.now) (R.stepped ranking.now) tags.now (back_from back.now symbols q) }
+        requires measured { (q : ℕ) → In live q → measure_of (R.start ranking.now) measures.now q ≡ rank_back (R.start ranking.now) (R.stepped ranking.now) tags.now (back_from back.now symbols q) }
         ensures lent { (result.ranking.now ≡ ranking.now) × (result.tags.now ≡ tags.now) × (result.measures.now ≡ measures.now) }
         ensures reached { (result.symbols ≡ symbols) × (result.live ≡ live) }
     {
@@ -65,7 +66,7 @@ impl<'r, 't, 'w, R: Ranking> Fronts<'r, 't, 'w, R> {
     // The measure of the front that ends in p.
     fn measure(&self, p: usize) -> &R::Measure
         requires { In self.now.live p }
-        ensures value { result.now ≡ slice_index_or self.now.measures.now p (R.start self.now.ranking.now) }
+        ensures value { result.now ≡ measure_of (R.start self.now.ranking.now) self.now.measures.now p }
         ensures near { Near (R.start self.now.ranking.now) (R.stepped self.now.ranking.now) self.now.symbols result.now }
     {
         &self.measures[p]
@@ -74,7 +75,7 @@ impl<'r, 't, 'w, R: Ranking> Fronts<'r, 't, 'w, R> {
     // Whether the front that ends in p ranks higher than the one that ends in r.
     fn is_higher(&self, p: usize, r: usize) -> bool
         requires { In self.now.live p × In self.now.live r }
-        ensures { result ≡ is_gt (R.compared self.now.ranking.now (slice_index_or self.now.measures.now p (R.start self.now.ranking.now)) (slice_index_or self.now.measures.now r (R.start self.now.ranking.now))) }
+        ensures { result ≡ is_gt (R.compared self.now.ranking.now (measure_of (R.start self.now.ranking.now) self.now.measures.now p) (measure_of (R.start self.now.ranking.now) self.now.measures.now r)) }
     {
         self.ranking
             .compare(self.measure(p), self.measure(r))
@@ -127,7 +128,7 @@ impl<'r, 't, 'w, R: Ranking> Fronts<'r, 't, 'w, R> {
     // Sets the measures of the positions at which a trail begins.
     fn begin(&self, begun: u64, after: &mut [R::Measure])
         requires { 64 ≤ length after.old }
-        ensures { (q : ℕ) → In begun q → slice_index_or after.new q (R.start self.now.ranking.now) ≡ R.stepped self.now.ranking.now (R.start self.now.ranking.now) (slice_index self.now.tags.now q) }
+        ensures { (q : ℕ) → In begun q → measure_of (R.start self.now.ranking.now) after.new q ≡ R.stepped self.now.ranking.now (R.start self.now.ranking.now) (slice_index self.now.tags.now q) }
     {
         for q in Positions::of(begun) {
             after[q] = self.ranking.step(self.ranking.start(), self.tags[q]);
@@ -144,7 +145,7 @@ impl<'r, 't, 'w, R: Ranking> Fronts<'r, 't, 'w, R> {
         requires room { (self.now.symbols < 160) × (64 ≤ length after.old) }
         ensures low { (q : ℕ) → slice_index result.previous q < 64 }
         ensures first { self.now.symbols ≡ 0 → result.positions ≡ bit_and automaton.now.first row }
-        ensures begun { self.now.symbols ≡ 0 → (q : ℕ) → In result.positions q → slice_index_or after.new q (R.start self.now.ranking.now) ≡ R.stepped self.now.ranking.now (R.start self.now.ranking.now) (slice_index self.now.tags.now q) }
+        ensures begun { self.now.symbols ≡ 0 → (q : ℕ) → In result.positions q → measure_of (R.start self.now.ranking.now) after.new q ≡ R.stepped self.now.ranking.now (R.start self.now.ranking.now) (slice_index self.now.tags.now q) }
         ensures preceded { 0 < self.now.symbols → Preceded (R.compared self.now.ranking.now) (measure_of (R.start self.now.ranking.now) self.now.measures.now) automaton.now.follow self.now.live row result.positions result.previous }
         ensures stepped { 0 < self.now.symbols → Stepped (R.start self.now.ranking.now) (R.stepped self.now.ranking.now) self.now.tags.now result.positions result.previous self.now.measures.now after.new }
     {

@@ -47,7 +47,6 @@ impl<const MOST: usize> LineBuffer<MOST> {
 
     // Takes the bytes before the chunk's first line feed. Where the line ends there, answers how many bytes of the chunk
     // are done with; else the whole chunk is. Where the input was cut into chunks makes no difference.
-    #[tactic(auto, using(crate::proofs::Fronts::at_feed, crate::proofs::Fronts::no_feed))]
     pub fn take_in(&mut self, chunk: &[u8]) -> Option<usize>
         ensures kept { held self.new ≡ take MOST (held self.old ++ front chunk.now) }
         ensures count { MatchOption result (through chunk.now ≡ length chunk.now) (λ n. n ≡ through chunk.now) }

@@ -39,10 +39,11 @@ impl Rows {
     }
 
     // The rows, first to last.
+    #[tactic(auto, unfolding(crate::specs::RowList::rows_of))]
     pub(crate) fn as_slice(&self) -> &[u64]
         ensures rows { result.now ≡ rows_of self.now }
         ensures bound { length result.now ≤ 160 }
     {
-        &self.list[0..self.len]
+        &self.list[..self.len]
     }
 }

@@ -1,18 +1,26 @@
 use Rattle.std.proofs.Common.{◌≡◌, ℕ, ◌<◌, ◌≤◌, List, ◌++◌, length, take, drop, append-nil, refl, ap, ◌∙◌, subst, inl, inr, arith, rules}
 use lib.Bits.{bit_and}
+use Rattle.std.specs.Bool.{then_some}
+use Rattle.std.specs.Option.{ok_or}
 use Rattle.std.proofs.Math.Seq.{drop-length, take-length}
-use Rattle.std.proofs.lemmas.Bool.{cases_eq}
+use Rattle.std.proofs.lemmas.Bool.{cases_Bool, cases_eq}
 use Rattle.std.proofs.lemmas.List.{length-set, length-take}
 use Rattle.automaton.specs.Bit.{In}
 use Rattle.automaton.proofs.Bits.{in_and, and_in, in_zero}
+use Rattle.splitting.specs.declared.Unsplit.TheVariants.{NoTrail}
 use Rattle.splitting.specs.Trails.{Room}
 use Rattle.splitting.proofs.Optimal.{no_cells, first_cells, next_cells}
 use Rattle.splitting.proofs.Tables.{low_none, low_set}
-use Rattle.splitting.proofs.Whole.{row_may, may_row, empty_best, missing, found}
+use Rattle.splitting.proofs.Whole.{row_may, may_row, empty_best, empty_none, missing, found}
 use Rattle.splitting.proofs.best_trail.Goals as goal
 
-pub returns-then-automaton : goal.returns-then-automaton
-returns-then-automaton g c = ((omega (arith, c.if-symbols-gt-MOST_SYMBOLS.false), omega (arith, c.if-trail-symbols.false), omega (arith, c.if-work.false)), empty_best _ c.if-symbols-eq0.true c.if-automaton.true)
+pub returns-then-symbols-eq0 : goal.returns-then-symbols-eq0
+returns-then-symbols-eq0 g c =
+    let is = c.ok_or.ensures.value ∙ ap (λ o. ok_or o NoTrail) c.then_some.ensures in
+    elim (cases_Bool c.args.automaton.now.nullable) [
+      | inl y ↦ rw (is ∙ ap (λ b. ok_or (then_some b tt) NoTrail) y) (search rules, empty_best _ c.if-symbols-eq0.true y)
+      | inr n ↦ rw (is ∙ ap (λ b. ok_or (then_some b tt) NoTrail) n) (search rules, empty_none c.if-symbols-eq0.true n, refl)
+    ]
 
 pub loop-i-init : goal.loop-i-init
 loop-i-init g c = record {
@@ -66,7 +74,7 @@ pub returns-in_default : goal.returns-in_default
 returns-in_default g c =
     let end : c.loop-i.i ≡ length c.args.stretch.now = omega (arith, c.loop-i-test.false, c.loop-i.auto.i-end) in
     let z = rw (c.new-fronts-2.ensures.reached.1) at c.in_default.ensures in
-    ((omega (arith, c.if-symbols-gt-MOST_SYMBOLS.false), omega (arith, c.if-trail-symbols.false), omega (arith, c.if-work.false)), missing (g.met.R.Ranking.lawful c.args.ranking.now) c.fits-tags c.if-symbols-eq0.false (rw end at c.loop-i.invariant.cells) (λ q e f. search (rules, no_both)), refl)
+    (search rules, missing (g.met.R.Ranking.lawful c.args.ranking.now) c.fits-tags c.if-symbols-eq0.false (rw end at c.loop-i.invariant.cells) (λ q e f. search (rules, no_both)), refl)
 
 -- a position that may end a trail is live
 live_one : (x y p : ℕ) → In (bit_and x y) p → In x p
@@ -90,5 +98,5 @@ returns g c =
     let same : c.new-fronts-2.result.measures.now ≡ c.loop-i.measures.now = fronts.lent.2 ∙ take-length c.loop-i.measures.now in
     let end : c.loop-i.i ≡ length c.args.stretch.now = omega (arith, c.loop-i-test.false, c.loop-i.auto.i-end) in
     let pick = rw (fronts.lent.0, same, fronts.reached.1) at c.in-Some.ensures in
-    let room : Room (length c.args.stretch.now) (length c.args.trail.now) (length c.args.work.now) = (omega (arith, c.if-symbols-gt-MOST_SYMBOLS.false), omega (arith, c.if-trail-symbols.false), omega (arith, c.if-work.false)) in
+    let room : Room (length c.args.stretch.now) (length c.args.trail.now) (length c.args.work.now) = search rules in
     (room, found (g.met.R.Ranking.lawful c.args.ranking.now) c.fits-tags c.if-symbols-eq0.false (rw end at c.loop-i.invariant.cells) c.in-Some.last pick _ _ room.0 room.1 c.walk_back.ensures)

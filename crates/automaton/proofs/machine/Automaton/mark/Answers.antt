@@ -1,10 +1,11 @@
 use Rattle.std.proofs.Common.{◌≡◌, ℕ, ◌+◌, ◌-◌, ◌<◌, ◌≤◌, min, ◌⊎◌, Option, Some, None, IfSome, List, length, get_or, set, sym, refl, ap, subst, inl, inr, arith}
 use Rattle.std.proofs.lemmas.Bool.{cases_lt}
 use Rattle.automaton.specs.declared.machine.Automaton.{Automaton}
+use Rattle.automaton.specs.RowList.{rows_of}
 use Rattle.automaton.specs.Tracks.{Earliest}
 use Rattle.automaton.proofs.Marking.{Marking, put, covered, bare}
 use Rattle.automaton.proofs.machine.Automaton.mark.Goals as goal
-use Rattle.automaton.proofs.machine.Automaton.mark.Goals.{in-Some, in_default}
+use Rattle.automaton.proofs.machine.Automaton.mark.Goals.{in-Some, in_default, Joined-leasts-i}
 
 -- the least start so far, with the least start of one symbol more
 Lower : Option ℕ → ℕ → ℕ → Type 0
@@ -41,24 +42,25 @@ starts : (a : Automaton) (line rows : List ℕ) (least : List (Option ℕ)) → 
     → (j : ℕ) → j < length rows → Earliest a rows (j + 1) (get_or least j None)
 starts a line rows least e = subst (λ xs. (j : ℕ) → j < length xs → Earliest a xs (j + 1) (get_or least j None)) e
 
+-- the least start so far, after the symbol is looked at
+lowered : (c : Joined-leasts-i) → Lower (get_or c.leasts-leasts.result (c.loop-i.i - 1) None) c.loop-i.low c.match-leasts-i.low
+lowered c = elim c.match-leasts-i.branch [
+  | in-Some w ↦ lower_some _ _ c.match-leasts-i.low c.loop-i.low w.in-Some.is (omega (arith, w.low-is, w.min-low.ensures))
+  | in_default w ↦ lower_none _ c.match-leasts-i.low c.loop-i.low w.in_default.not-Some w.low-is
+]
+
+-- the least starts, by the rows
+told : (c : Joined-leasts-i) → (j : ℕ) → j < length (rows_of c.args.rows.now) → Earliest c.args.self.now (rows_of c.args.rows.now) (j + 1) (get_or c.leasts-leasts.result j None)
+told c = starts _ _ _ _ c.as_slice-line.ensures.rows c.leasts-leasts.ensures
+
 pub loop-i-preserved-then-low-i : goal.loop-i-preserved-then-low-i
 loop-i-preserved-then-low-i c =
-    let e = c.as_slice-line.ensures.rows in
-    let n = ap length e in
-    let lower : Lower (get_or c.leasts-leasts.result (c.loop-i.i - 1) None) c.loop-i.low c.match-leasts-i.low =
-    elim c.match-leasts-i.branch [
-      | in-Some w ↦ lower_some _ _ c.match-leasts-i.low c.loop-i.low w.in-Some.is (omega (arith, w.low-is, w.min-low.ensures))
-      | in_default w ↦ lower_none _ c.match-leasts-i.low c.loop-i.low w.in_default.not-Some w.low-is
-    ] in
-    one _ _ _ _ _ _ _ _ _ c.loop-i.invariant c.loop-i-test.true (omega arith) (starts _ _ _ _ e c.leasts-leasts.ensures) lower (omega (arith, c.if-low-i.true))
+    let n = ap length c.as_slice-line.ensures.rows in
+    let at = (goal.at.loop-i-preserved-then-low-i c).Joined-leasts-i in
+    one _ _ _ _ _ _ _ _ _ c.loop-i.invariant c.loop-i-test.true (omega arith) (told at) (lowered at) (omega (arith, c.if-low-i.true))
 
 pub loop-i-preserved : goal.loop-i-preserved
 loop-i-preserved c =
-    let e = c.as_slice-line.ensures.rows in
-    let n = ap length e in
-    let lower : Lower (get_or c.leasts-leasts.result (c.loop-i.i - 1) None) c.loop-i.low c.match-leasts-i.low =
-    elim c.match-leasts-i.branch [
-      | in-Some w ↦ lower_some _ _ c.match-leasts-i.low c.loop-i.low w.in-Some.is (omega (arith, w.low-is, w.min-low.ensures))
-      | in_default w ↦ lower_none _ c.match-leasts-i.low c.loop-i.low w.in_default.not-Some w.low-is
-    ] in
-    nil _ _ _ _ _ _ _ _ _ c.loop-i.invariant c.loop-i-test.true (omega arith) (starts _ _ _ _ e c.leasts-leasts.ensures) lower (omega (arith, c.if-low-i.false))
+    let n = ap length c.as_slice-line.ensures.rows in
+    let at = (goal.at.loop-i-preserved c).Joined-leasts-i in
+    nil _ _ _ _ _ _ _ _ _ c.loop-i.invariant c.loop-i-test.true (omega arith) (told at) (lowered at) (omega (arith, c.if-low-i.false))

@@ -1,5 +1,4 @@
 use Rattle.std.proofs.Common.{◌≡◌, ℕ, true, false, Err, sym, refl, ap, ◌∙◌, inl, inr, arith}
-use Rattle.std.proofs.lemmas.Grind.{common_steps}
 use Rattle.pattern.specs.declared.fault.Fault.TheVariants.{MissingUnit, TooDeep}
 use Rattle.pattern.specs.declared.token.Kind.{Kind}
 use Rattle.pattern.specs.Expressions.{seq, either}
@@ -48,7 +47,7 @@ group-returns t c =
 
 pub item-returns-in_err-read-in-Test : goal.item-returns-in_err-read-in-Test
 item-returns-in_err-read-in-Test t c =
-    let is : kind_here c.args.self.now ≡ Kind.Test (Err c.in_err-read-in-Test.field-0.0) = grind (arith, common_steps) in
+    let is : kind_here c.args.self.now ≡ Kind.Test (Err c.in_err-read-in-Test.field-0.0) = grind arith in
     handed_on _ _ _ c.from_residual-in_err-read-in-Test.ensures.1 (item_bad (unit_misread is))
 
 pub item-returns-in_err-unit-in-Test : goal.item-returns-in_err-unit-in-Test
@@ -96,7 +95,7 @@ pub item-returns-in_default-2 : goal.item-returns-in_default-2
 item-returns-in_default-2 t c =
     let s = source_of c.args.self.now in
     let i = c.args.self.now.pos in
-    let none : is_unit (kind_here c.args.self.now) ≡ false = grind (arith, common_steps) in
+    let none : is_unit (kind_here c.args.self.now) ≡ false = grind arith in
     faulted s i c.peek-token.ensures MissingUnit (item_bad (unit_none none))
 
 unit_read : (t : ℕ) (c : goal.item-Joined-token t) → Did (unit c.args.depth) c.args.self.now c.match-token.unit c.match-token.self

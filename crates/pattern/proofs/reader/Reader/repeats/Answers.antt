@@ -1,5 +1,4 @@
 use Rattle.std.proofs.Common.{false, ◌≡◌, sym, refl, ◌∙◌, inl, inr, arith}
-use Rattle.std.proofs.lemmas.Grind.{common_steps}
 use Rattle.pattern.specs.declared.fault.Fault.TheVariants.{RepeatedTag}
 use Rattle.pattern.specs.declared.token.Kind.{Kind}
 use Rattle.pattern.specs.Expressions.{star, plus, opt}
@@ -23,7 +22,7 @@ returns-in_default-2 c = record {
   kept = c.repeats.invariant.kept;
   whole = λ e m.
       let g = c.repeats.invariant.gone e m in
-      let none : is_repeat (kind_here c.repeats.self) ≡ false = grind (arith, common_steps) in
+      let none : is_repeat (kind_here c.repeats.self) ≡ false = grind arith in
       (g.expr, g.onward _ (repeats_end none), g.means);
 }
 

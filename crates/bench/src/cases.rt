@@ -47,7 +47,7 @@ impl Texts {
         }
     }
 
-    pub fn cases(&self) -> [Case<'_>; 7] {
+    pub fn cases(&self) -> [Case<'_>; 8] {
         [
             Case::new("speaker21", SPEAKER, GREETING),
             Case::new("speaker160", SPEAKER, &PROSE),
@@ -56,6 +56,7 @@ impl Texts {
             Case::new("ambig160", AMBIGUOUS, &self.coins),
             Case::new("opt160", &self.optional, &self.same),
             Case::new("stars160", &self.stars, &PROSE),
+            Case::new("untagged160", &self.stars[8..112], &PROSE),
         ]
     }
 }

@@ -11,7 +11,7 @@ use Rattle.examples.proofs.Matcher.{matches, word_of, of_word}
 
 -- the stretch l to r reads
 abbrev pub reads : {S : Type 0} → (ℕ → S → Bool) → Expr → List S → ℕ → ℕ → Bool
-reads admits e line l r = matches e (1 + size e) admits (stretch line l r)
+reads admits e line l r = matches e (1 + size e) admits (λ _. true) (stretch line l r)
 
 -- the stretch from a to b is longer than the one from l to r, or as long and no further right
 abbrev pub is_ahead : ℕ → ℕ → ℕ → ℕ → Bool
@@ -42,11 +42,11 @@ all_marked_right admits e line marks = every (length line) (λ i. marked_right a
 module _ {S : Type 0} (admits : ℕ → S → Bool) (e : Expr) (in_order : numbered e 1 ≡ true) (line : List S) where
   to_reads : (l r : ℕ) → l ≤ r → r ≤ length line → reads admits e line l r ≡ true → Reads admits e line l r
   to_reads l r ordered within h =
-      let x = word_of e admits in_order (stretch line l r) h in
+      let x = word_of e admits in_order (λ _. true) (stretch line l r) h in
       record { ordered = ordered; within = within; word = x.0; is_word = x.1; admitted = x.2 }
 
   of_reads : (l r : ℕ) → Reads admits e line l r → reads admits e line l r ≡ true
-  of_reads l r x = of_word e admits in_order x.word (stretch line l r) x.is_word x.admitted
+  of_reads l r x = of_word e admits in_order (λ _. true) x.word (stretch line l r) x.is_word x.admitted refl
 
   passed : (a b : Bool) → a || not b ≡ true → b ≡ true → a ≡ true
   passed a b h r = elim (or_cases a (not b) h) [ inl x ↦ x | inr y ↦ absurd (both_ways b (not-true b y) r) ]

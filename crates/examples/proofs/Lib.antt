@@ -1,4 +1,5 @@
 mod Bounded
 mod Matcher
 mod Checks
+mod Splitting
 mod Rows

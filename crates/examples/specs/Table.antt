@@ -1,17 +1,24 @@
 -- The examples that stand as theorems.
-use Rattle.std.specs.Prelude.{◌≡◌, ℕ, ◌<◌, Bool, List, [], ◌∷◌, length, replicate, None, Ok, Err, codes, sum, slice_index}
+use Rattle.std.specs.Prelude.{◌≡◌, ℕ, ◌<◌, Bool, List, [], ◌∷◌, length, replicate, Some, None, Option, Ok, Err, codes, sum, slice_index}
 use Rattle.alphabet.specs.declared.Cause.TheVariants.{OutOfRange}
 use Rattle.alphabet.specs.Letters.{letter_reading, letter_meaning}
 use Rattle.alphabet.specs.Words.{word_reading, word_meaning}
 use Rattle.automaton.specs.Stretches.{Longest, NoneReads, MarkedRight}
 use Rattle.cue.specs.Leb128.{leb128}
 use Rattle.cue.specs.Records.{record_of}
+use Rattle.parts.specs.Parts.{PartsAlong}
 use Rattle.pattern.specs.declared.fault.Fault.{Fault}
 use Rattle.pattern.specs.declared.fault.Fault.TheVariants.{BadTest, MissingUnit, LooseBracket, RepeatedTag}
 use Rattle.pattern.specs.Expressions.{Expr, Syntax}
 use Rattle.pattern.specs.Scanning.{syntax_of}
+use Rattle.pattern.specs.Tags.{inside}
 use Rattle.pattern.specs.Tokens.{Reading}
+use Rattle.ranking.specs.Numbers.{ordered}
+use Rattle.ranking.specs.TagLengths.{no_lengths, longer_by, first_difference}
+use Rattle.ranking.specs.TagSets.{no_extent, extent_with}
+use Rattle.sheet.specs.declared.Part.{Part}
 use Rattle.shelf.specs.Matching.{test_admits, Reads}
+use Rattle.shelf.specs.Splits.{BestWord}
 
 -- the notation in which a pattern is written; either has numbers for symbols
 pub data Written : Type 0 where
@@ -25,7 +32,12 @@ abbrev pub meaning : Written → ℕ → ℕ → Bool
 meaning letters = letter_meaning
 meaning words = word_meaning
 
--- an example: what the bytes of a pattern come to, what the pattern reads of a line, or the bytes of a cue record
+-- the ranking by which a stretch is split
+pub data RankedBy : Type 0 where
+  extent tag_order : RankedBy
+
+-- an example: what the bytes of a pattern come to, what the pattern reads of a line, how it splits a stretch of a line, or the bytes of
+-- a cue record
 pub data Example : Type 0 where
   -- the pattern has this fault
   refused_pattern : List ℕ → Fault → Example
@@ -35,6 +47,8 @@ pub data Example : Type 0 where
   no_match : Written → List ℕ → List ℕ → Example
   -- a 1 for each symbol of the line that is in a stretch that reads, a 0 for each other, and how many are in one
   marks_are : Written → List ℕ → List ℕ → List ℕ → ℕ → Example
+  -- of the stretch between these ends, this is the best trail by the ranking, and the entries are the parts along it
+  split_is : RankedBy → Written → List ℕ → List ℕ → ℕ × ℕ → List ℕ → List (Option Part) → Example
   -- the number has these bytes in a cue record
   number_is : ℕ → List ℕ → Example
   -- the marks of a line, without parts, have this cue record
@@ -44,6 +58,11 @@ pub data Example : Type 0 where
 abbrev pub Lawful : Written → List ℕ → ((ℕ → ℕ → Bool) → Expr → Type 0) → Type 0
 Lawful w bytes Holds = (x : Syntax) × (syntax_of (reading w) bytes ≡ Ok x) × Holds (test_admits (meaning w) x.codes) x.tree
 
+-- of the stretch l to r of the line, the word is the best trail by the ranking
+abbrev pub BestBy : RankedBy → (ℕ → ℕ → Bool) → Expr → List ℕ → ℕ → ℕ → List ℕ → Type 0
+BestBy extent admits e line l r word = BestWord no_extent extent_with ordered admits e line l r word
+BestBy tag_order admits e line l r word = BestWord no_lengths longer_by first_difference admits e line l r word
+
 abbrev pub AsListed : Example → Type 0
 AsListed (refused_pattern bytes fault) = syntax_of letter_reading bytes ≡ Err fault
 AsListed (longest_is w bytes line ends) = Lawful w bytes (λ admits e. Longest (Reads admits e line) ends)
@@ -52,12 +71,18 @@ AsListed (marks_are w bytes line marks count) =
     Lawful w bytes (λ admits e. (i : ℕ) → i < length line → MarkedRight (Reads admits e line) i (slice_index marks i))
     × (length marks ≡ length line)
     × (count ≡ sum marks)
+AsListed (split_is ranking w bytes line ends word entries) =
+    Lawful w bytes (λ admits e. BestBy ranking admits e line ends.0 ends.1 word × PartsAlong (inside e) ends.0 word entries)
 AsListed (number_is n bytes) = leb128 n ≡ bytes
 AsListed (record_is marks bytes) = record_of marks (replicate 8 None) ≡ bytes
 
 abbrev pub AllAsListed : List Example → Type 0
 AllAsListed [] = Unit {0}
 AllAsListed (x ∷ xs) = AsListed x × AllAsListed xs
+
+-- a tag's part, from its first symbol to just past its last
+abbrev pub part : ℕ → ℕ → Option Part
+part left right = Some (record { left = left; right = right })
 
 abbrev pub examples : List Example
 examples =
@@ -74,6 +99,10 @@ examples =
     ∷ marks_are letters (codes "a*") (codes "bb") (0 ∷ 0 ∷ []) 0
     ∷ no_match letters (codes "a") []
     ∷ longest_is words (codes "#3;@7;*") (196609 ∷ 131079 ∷ 327687 ∷ []) (0, 3)
+    ∷ split_is extent letters (codes "{a}bc|a{b{c}}") (codes "abc") (0, 3) (4 ∷ 5 ∷ 6 ∷ []) (None ∷ part 1 3 ∷ part 2 3 ∷ replicate 5 None)
+    ∷ split_is tag_order letters (codes "{a}bc|a{b{c}}") (codes "abc") (0, 3) (1 ∷ 2 ∷ 3 ∷ []) (part 0 1 ∷ replicate 7 None)
+    ∷ split_is extent letters (codes "a{b}|{a}b") (codes "ab") (0, 2) (1 ∷ 2 ∷ []) (part 1 2 ∷ replicate 7 None)
+    ∷ split_is extent letters (codes "a{b*}c") (codes "ac") (0, 2) (1 ∷ 3 ∷ []) (replicate 8 None)
     ∷ number_is 0 (0 ∷ [])
     ∷ number_is 1 (1 ∷ [])
     ∷ number_is 2 (2 ∷ [])

@@ -11,4 +11,6 @@ pub fn examples_come_out()
 #[cfg(test)]
 mod notations;
 #[cfg(test)]
+mod tag_sets;
+#[cfg(test)]
 mod tests;

@@ -3,8 +3,10 @@ use alphabet::letters::Letters;
 use alphabet::words::Words;
 use alphabet::{Alphabet, Cause, Notation};
 use pattern::fault::{Fault, Misread};
-use shelf::Shelf;
+use ranking::{Extent, TagOrder};
+use sheet::{Part, Sheet};
 use shelf::refusal::Refusal;
+use shelf::{Shelf, part_of_line};
 use std::process::Abort;
 
 // What filing a pattern of letters on a bare shelf answers.
@@ -162,4 +164,186 @@ fn lines_of_any_symbols(rt: HostRuntime) {
     let mut down = Shelf::new(Downward { asked: 0 });
     assert_eq!(rt; down.file(0, b"[+"), Ok((1, 0)));
     assert_eq!(rt; down.longest(0, &[91, 91, 92]), Ok((0, 2)));
+}
+
+fn part(left: usize, right: usize) -> Option<Part> {
+    Some(Part { left, right })
+}
+
+// What a splitting by extent answers, with work for so many measures.
+fn split_with(
+    shelf: &Shelf<Letters>,
+    place: usize,
+    line: &[u8],
+    ends: (usize, usize),
+    trail: &mut [u8],
+    sheet: &mut Sheet,
+    measures: usize,
+) -> Result<(), Refusal> {
+    let mut work = [7; 128];
+    let room = &mut work[..measures.min(128)];
+    shelf.split(place, line, ends.0, ends.1, &Extent, trail, sheet, room)
+}
+
+#[test]
+fn rankings_differ(rt: HostRuntime) {
+    let mut shelf = Shelf::new(Letters::new());
+    assert_eq!(rt; shelf.file(7, b"{a}bc|a{b{c}}"), Ok((6, 3)));
+    let mut trail = [9; 5];
+    let mut sheet = Sheet::new();
+    assert_eq!(rt;
+        split_with(&shelf, 7, b"abc", (0, 3), &mut trail, &mut sheet, 128),
+        Ok(())
+    );
+    assert_eq!(rt; trail, [4, 5, 6, 9, 9]);
+    assert_eq!(rt; sheet.part(1), None);
+    assert_eq!(rt; sheet.part(2), part(1, 3));
+    assert_eq!(rt; sheet.part(3), part(2, 3));
+    let mut lengths = [[0; 8]; 128];
+    assert_eq!(rt;
+        shelf.split(
+            7,
+            b"abc",
+            0,
+            3,
+            &TagOrder,
+            &mut trail,
+            &mut sheet,
+            &mut lengths
+        ),
+        Ok(())
+    );
+    assert_eq!(rt; trail, [1, 2, 3, 9, 9]);
+    assert_eq!(rt; sheet.part(1), part(0, 1));
+    assert_eq!(rt; sheet.part(2), None);
+    assert_eq!(rt; sheet.part(3), None);
+}
+
+// The trail of a whole line of two letters by extent, and the parts of the first two tags.
+fn split_two(pattern: &[u8], line: &[u8], trail: &mut [u8; 2]) -> (Option<Part>, Option<Part>) {
+    let mut shelf = Shelf::new(Letters::new());
+    let _ = shelf.file(0, pattern);
+    let mut sheet = Sheet::new();
+    let mut work = [0; 128];
+    let _ = shelf.split(0, line, 0, 2, &Extent, trail, &mut sheet, &mut work);
+    (sheet.part(1), sheet.part(2))
+}
+
+#[test]
+fn ties_and_empty_tags(rt: HostRuntime) {
+    let mut trail = [9; 2];
+    assert_eq!(rt;
+        split_two(b"a{b}|{a}b", b"ab", &mut trail),
+        (part(1, 2), None)
+    );
+    assert_eq!(rt; trail, [1, 2]);
+    assert_eq!(rt; split_two(b"a{b*}c", b"ac", &mut trail), (None, None));
+    assert_eq!(rt; trail, [1, 3]);
+}
+
+#[test]
+fn a_stretch_inside_a_line(rt: HostRuntime) {
+    let mut shelf = Shelf::new(Letters::new());
+    assert_eq!(rt; shelf.file(3, b"{[A-Z]+}: {.*}"), Ok((4, 2)));
+    let line = b"hm ANNA: good evening";
+    let mut trail = [9; 18];
+    let mut sheet = Sheet::new();
+    let mut work = [0; 128];
+    assert_eq!(rt;
+        shelf.split(3, line, 3, 21, &Extent, &mut trail, &mut sheet, &mut work),
+        Ok(())
+    );
+    assert!(rt; trail == [1, 1, 1, 1, 2, 3, 4, 4, 4, 4, 4, 4, 4, 4, 4, 4, 4, 4]);
+    assert_eq!(rt; part_of_line(&sheet, 1, line), Ok(Some(&b"ANNA"[..])));
+    assert_eq!(rt;
+        part_of_line(&sheet, 2, line),
+        Ok(Some(&b"good evening"[..]))
+    );
+    assert_eq!(rt; part_of_line(&sheet, 3, line), Ok(None));
+    assert_eq!(rt; part_of_line(&sheet, 0, line), Ok(None));
+    assert_eq!(rt; part_of_line(&sheet, 9, line), Ok(None));
+    assert_eq!(rt;
+        part_of_line(&sheet, 1, b"hm ANN"),
+        Err(Refusal::EndsMisfit)
+    );
+}
+
+#[test]
+fn parts_that_misfit(rt: HostRuntime) {
+    let mut sheet = Sheet::new();
+    sheet.fill(4, part(2, 1));
+    sheet.fill(5, part(2, 2));
+    sheet.fill(6, part(0, usize::MAX));
+    assert_eq!(rt; part_of_line(&sheet, 4, b"abc"), Err(Refusal::EndsMisfit));
+    assert_eq!(rt; part_of_line(&sheet, 5, b"abc"), Ok(Some(&b""[..])));
+    assert_eq!(rt; part_of_line(&sheet, 6, b"abc"), Err(Refusal::EndsMisfit));
+}
+
+// Each refusal comes before those that follow, and leaves trail and sheet as they were.
+#[test]
+fn splittings_turned_down(rt: HostRuntime) {
+    let mut shelf = Shelf::new(Letters::new());
+    assert_eq!(rt; shelf.file(0, b"{a}a"), Ok((2, 1)));
+    let mut sheet = Sheet::new();
+    sheet.fill(8, part(5, 3));
+    let before = sheet;
+    let mut trail = [9; 4];
+    let long = &[b'b'; 161];
+    assert_eq!(rt;
+        split_with(&shelf, 10, long, (2, 1), &mut trail[..0], &mut sheet, 0),
+        Err(Refusal::NoSuchPlace)
+    );
+    assert_eq!(rt;
+        split_with(&shelf, 1, long, (2, 1), &mut trail[..0], &mut sheet, 0),
+        Err(Refusal::PlaceBare)
+    );
+    assert_eq!(rt;
+        split_with(&shelf, 0, long, (2, 1), &mut trail[..0], &mut sheet, 0),
+        Err(Refusal::LineTooLong)
+    );
+    assert_eq!(rt;
+        split_with(&shelf, 0, b"bbb", (2, 1), &mut trail[..0], &mut sheet, 0),
+        Err(Refusal::EndsMisfit)
+    );
+    assert_eq!(rt;
+        split_with(&shelf, 0, b"bbb", (1, 4), &mut trail[..0], &mut sheet, 0),
+        Err(Refusal::EndsMisfit)
+    );
+    assert_eq!(rt; trail, [9; 4]);
+    assert_eq!(rt; sheet, before);
+}
+
+#[test]
+fn no_room_and_no_match(rt: HostRuntime) {
+    let mut shelf = Shelf::new(Letters::new());
+    assert_eq!(rt; shelf.file(0, b"{a}a"), Ok((2, 1)));
+    let mut sheet = Sheet::new();
+    sheet.fill(8, part(5, 3));
+    let before = sheet;
+    let mut trail = [9; 4];
+    assert_eq!(rt;
+        split_with(&shelf, 0, b"bbb", (1, 3), &mut trail[..1], &mut sheet, 128),
+        Err(Refusal::BufferTooShort)
+    );
+    assert_eq!(rt;
+        split_with(&shelf, 0, b"bbb", (1, 3), &mut trail, &mut sheet, 127),
+        Err(Refusal::BufferTooShort)
+    );
+    assert_eq!(rt;
+        split_with(&shelf, 0, b"bbb", (1, 3), &mut trail, &mut sheet, 128),
+        Err(Refusal::NoMatch)
+    );
+    assert_eq!(rt;
+        split_with(&shelf, 0, b"aab", (0, 0), &mut trail[..0], &mut sheet, 128),
+        Err(Refusal::NoMatch)
+    );
+    assert_eq!(rt; trail, [9; 4]);
+    assert_eq!(rt; sheet, before);
+    assert_eq!(rt;
+        split_with(&shelf, 0, b"baa", (1, 3), &mut trail, &mut sheet, 128),
+        Ok(())
+    );
+    assert_eq!(rt; trail, [1, 2, 9, 9]);
+    assert_eq!(rt; sheet.part(1), part(1, 2));
+    assert_eq!(rt; sheet.part(8), None);
 }

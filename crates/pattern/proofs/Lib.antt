@@ -1,4 +1,5 @@
 mod Agree
+pub mod Alike
 pub mod BitSets
 mod Cuts
 mod Derivations
@@ -9,4 +10,7 @@ pub mod Spelled
 mod Spells
 mod Steps
 mod Tables
+mod TagNumbers
+pub mod TagSets
+mod TagSpreads
 pub mod Walks

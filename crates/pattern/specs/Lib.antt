@@ -8,5 +8,7 @@ pub mod Patterns
 pub mod Positions
 pub mod Scanning
 pub mod Spelling
+pub mod Tags
+pub mod TagWalks
 pub mod Tokens
 pub mod Trees

@@ -8,6 +8,7 @@ mod node;
 mod positions;
 mod reader;
 mod reading;
+mod tagging;
 mod token;
 
 pub use cutter::MOST_BYTES;

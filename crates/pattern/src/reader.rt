@@ -8,6 +8,7 @@ use crate::fault::Fault;
 use crate::kept::Pattern;
 use crate::node::{MOST_NODES, Node};
 use crate::positions::automaton;
+use crate::tagging::tag_sets;
 use crate::token::{Kind, Token};
 use automaton::POSITIONS;
 
@@ -247,6 +248,7 @@ pub(crate) fn parse(tokens: &[Token], end: usize) -> Result<Pattern, Fault>
         return Err(Fault::LooseBracket(behind.offset));
     };
     let machine = automaton(&reader.nodes, whole.root);
+    let sets = tag_sets(&reader.nodes, whole.root);
     Ok(Pattern {
         nodes: reader.nodes,
         root: whole.root,
@@ -254,5 +256,6 @@ pub(crate) fn parse(tokens: &[Token], end: usize) -> Result<Pattern, Fault>
         tests: reader.tests,
         tags: reader.tags,
         machine,
+        sets,
     })
 }

@@ -1,10 +1,11 @@
 // From a pattern's bytes to the pattern as it is kept.
-ghost use Rattle.std.specs.Prelude.{◌≡◌, ◌<◌, ◌≤◌, length, MatchResult};
+ghost use Rattle.std.specs.Prelude.{◌≡◌, ℕ, ◌+◌, ◌<◌, ◌≤◌, length, MatchResult, slice_index};
 ghost use Rattle.pattern.specs.Expressions.{Syntax};
 ghost use Rattle.pattern.specs.Grammar.{Derivable, DerivesOnly};
 ghost use Rattle.pattern.specs.Patterns.{syntax, written};
 ghost use Rattle.pattern.specs.Spelling.{HasWords};
 ghost use Rattle.pattern.specs.Scanning.{syntax_of};
+ghost use Rattle.pattern.specs.Tags.{tag_set};
 ghost use Rattle.pattern.specs.Tokens.{SameReading};
 
 use crate::cutter::{MOST_BYTES, cut};
@@ -12,7 +13,7 @@ use crate::fault::Fault;
 use crate::kept::Pattern;
 use crate::reader::parse;
 use alphabet::{Alphabet, Notation};
-use automaton::Automaton;
+use automaton::{Automaton, POSITIONS};
 
 impl Pattern {
     /// Reads a pattern in a notation, or says what is the first thing wrong with it.
@@ -57,5 +58,13 @@ impl Pattern {
         ensures { result ≡ (syntax self.now).tags }
     {
         self.tags as usize
+    }
+
+    /// For each test the set of the tags that it is inside: the test p stands at p - 1, and bit t - 1 of its set says
+    /// whether it is inside the tag t.
+    pub fn tag_sets(&self) -> &[u8; POSITIONS]
+        ensures { (q : ℕ) → slice_index result.now q ≡ tag_set (syntax self.now).tree (q + 1) }
+    {
+        &self.sets
     }
 }

@@ -10,6 +10,7 @@ use Rattle.pattern.specs.Tokens.{Reading, tokens}
 use Rattle.pattern.specs.declared.kept.Pattern.{Pattern}
 use Rattle.shelf.specs.declared.refusal.Refusal.{Refusal}
 use Rattle.shelf.specs.declared.refusal.Refusal.TheVariants.{PlaceTaken, Unlawful}
+use Rattle.refusals.specs.RefusalTexts.{refusal_text}
 use Rattle.shelf.specs.Places.{held_at}
 use Rattle.shelf.specs.Filing.{filing, unlawful, counts}
 use Rattle.proofreading.specs.Showing.{shown, pattern_line}
@@ -40,7 +41,7 @@ pub front_suffices : FrontSuffices
 front_suffices n line = elim (cases_lt (length line) 121) [
   | inl h ↦ ap (λ l. verdict_text n l (verdict_on l)) (take_all 121 line (omega arith))
   | inr h ↦
-      (let F : List ℕ → List ℕ = λ p. codes "line " ++ (decimal n ++ (codes ": refused " ++ (decimal 4 ++ (codes ", " ++ (codes "longer than 120 bytes" ++ (codes "\n" ++ (p ++ []))))))) in
+      (let F : List ℕ → List ℕ = λ p. codes "line " ++ (decimal n ++ (codes ": " ++ (refusal_text (Unlawful TooLong) ++ (codes ", " ++ (codes "longer than 120 bytes" ++ (codes "\n" ++ (p ++ []))))))) in
       ap (verdict_text n (take 121 line)) (long_verdict (take 121 line) (omega (arith, length-take 121 line)))
       ∙ ap F (long_line line h)
       ∙ sym (ap (verdict_text n line) (long_verdict line (omega arith))))

@@ -1,30 +1,18 @@
 -- Every verdict and every report fits into a text.
-use Rattle.std.proofs.Common.{◌≡◌, ℕ, zero, suc, ◌+◌, ◌*◌, ◌/◌, ◌%◌, ◌≤◌, Bool, false, cond, eqb, ltb, List, [], ◌∷◌, length, get_or, take, drop, replicate, Some, None, codes, decimal, Option, arith, lit≤, length-append, length-take}
+use Rattle.std.proofs.Common.{◌≡◌, ℕ, zero, suc, ◌+◌, ◌*◌, ◌≤◌, cond, ltb, List, [], ◌∷◌, length, get_or, take, drop, replicate, Some, None, codes, Option, arith, lit≤, length-append, length-take}
 use lib.ListN.{length-replicate}
-use Rattle.std.specs.Fmt.{digits_onto, digit_glyph, digits}
 use Rattle.std.proofs.lemmas.Bool.{cond_both}
 use Rattle.std.proofs.lemmas.Grind.{common_steps}
 use Rattle.alphabet.specs.declared.Cause.{Cause}
 use Rattle.shelf.specs.declared.refusal.Refusal.{Refusal}
-use Rattle.shelf.specs.Refusals.{refusal_number, refusal_words, refusal_offset, refusal_cause}
+use Rattle.shelf.specs.Refusals.{refusal_words, refusal_offset}
 use Rattle.alphabet.specs.Causes.{cause_words}
+use Rattle.refusals.proofs.Lengths.{decimal_short, refusal_short}
 use Rattle.proofreading.specs.declared.tally.Tally.{Tally}
 use Rattle.proofreading.specs.Showing.{shown, shown_byte, prints, pattern_line, caret_line}
 use Rattle.proofreading.specs.Words.{refusal_names, refusal_name, counted}
-use Rattle.proofreading.specs.Verdicts.{Verdict, lawful_text, offset_text, cause_text, refused_text, finding_text, verdict_text}
+use Rattle.proofreading.specs.Verdicts.{Verdict, lawful_text, refused_text, finding_text, verdict_text}
 use Rattle.proofreading.specs.Reports.{report_head, number_line, number_lines, report_text}
-
-spelled_short : (k base : ℕ) (upper : Bool) (n : ℕ) (acc : List ℕ) → length (digits_onto k base upper n acc) ≤ k + length acc
-spelled_short zero base upper n acc = omega arith
-spelled_short (suc k) base upper n acc =
-    cond_both (eqb (n / base) 0) _ _ (λ l. length l ≤ suc k + length acc)
-    (λ _. omega arith)
-    (λ _. omega (arith, spelled_short k base upper (n / base) (digit_glyph upper (n % base) ∷ acc)))
-
--- as a number of 64 bits is printed, and any other too
-decimal_short : (n : ℕ) → length (decimal n) ≤ 64
-unfolding digits
-decimal_short n = omega (arith, spelled_short 64 10 false n [])
 
 byte_short : (b : ℕ) → length (shown_byte b) ≤ 4
 byte_short b = cond_both (prints b) _ _ (λ l. length l ≤ 4) (λ _. omega arith) (λ _. omega arith)
@@ -54,17 +42,11 @@ cause_short c = grind arith
 words_short : (r : Refusal) → length (refusal_words r) ≤ 57
 words_short r = grind (arith, cause_short)
 
-offset_short : (o : Option ℕ) → length (offset_text o) ≤ 68
-offset_short o = grind (arith, decimal_short)
-
-cause_text_short : (o : Option Cause) → length (cause_text o) ≤ 71
-cause_text_short o = grind (arith, decimal_short)
-
 lawful_short : (bs : List ℕ) (tests tags : ℕ) → length (lawful_text bs tests tags) ≤ 700
 lawful_short bs tests tags = grind (arith, common_steps, counted_short tests (codes "test"), counted_short tags (codes "tag"), pattern_short bs)
 
 refused_short : (bs : List ℕ) (r : Refusal) → length (refused_text bs r) ≤ 1300
-refused_short bs r = grind (arith, common_steps, decimal_short (refusal_number r), offset_short (refusal_offset r), cause_text_short (refusal_cause r), words_short r, pattern_short bs, caret_short bs (refusal_offset r))
+refused_short bs r = grind (arith, common_steps, refusal_short r, words_short r, pattern_short bs, caret_short bs (refusal_offset r))
 
 finding_short : (bs : List ℕ) (v : Verdict) → length (finding_text bs v) ≤ 1300
 finding_short bs v = grind (arith, lawful_short, refused_short)

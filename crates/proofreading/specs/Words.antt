@@ -1,7 +1,7 @@
 -- Refusals by number, and counts, in words.
 use Rattle.std.specs.Prelude.{ℕ, cond, List, [], ◌∷◌, ◌++◌, codes, decimal, ◌==◌, slice_index_or}
 
--- the short names of the refusals, by number; no refusal has the numbers 0 and 14
+-- the short names of the refusals, by number; no refusal has the number 0
 abbrev pub refusal_names : List (List ℕ)
 refusal_names =
     codes ""
@@ -18,7 +18,7 @@ refusal_names =
     ∷ codes "repeated tag"
     ∷ codes "line too long"
     ∷ codes "short buffer"
-    ∷ codes ""
+    ∷ codes "misfit ends"
     ∷ codes "no match"
     ∷ []
 

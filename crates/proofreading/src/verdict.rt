@@ -1,12 +1,12 @@
 // The verdict on a pattern, in words.
 ghost use Rattle.std.specs.Prelude.{◌≡◌};
 ghost use Rattle.proofreading.specs.Showing.{CaretStandsBelow};
-ghost use Rattle.proofreading.specs.Verdicts.{verdict_text, lawful_text, refused_text, offset_text, cause_text};
+ghost use Rattle.proofreading.specs.Verdicts.{verdict_text, lawful_text, refused_text};
 ghost use Rattle.text.specs.Texts.{written, Adds};
 
 use crate::showing::{write_caret, write_pattern};
 use crate::words::write_count;
-use alphabet::Cause;
+use refusals::write_refusal;
 use shelf::refusal::Refusal;
 use text::buffer::Text;
 
@@ -21,35 +21,13 @@ fn write_lawful(out: &mut Text, bytes: &[u8], tests: usize, tags: usize)
     write_pattern(out, bytes);
 }
 
-// Beside `write_cause`, and not one function of a label and a number for both: each number would first have to be mapped to a `u64` by a
-// closure, which is no plainer than these lines.
-fn write_offset(out: &mut Text, offset: Option<usize>)
-    ensures { Adds out.old (offset_text offset) out.new }
-{
-    if let Some(at) = offset {
-        out.text(b" at ");
-        out.number(at as u64);
-    }
-}
-
-fn write_cause(out: &mut Text, cause: Option<Cause>)
-    ensures { Adds out.old (cause_text cause) out.new }
-{
-    if let Some(why) = cause {
-        out.text(b" cause ");
-        out.number(u64::from(why.number()));
-    }
-}
-
 // Piece by piece, and with the refusal's `words`, not by `write!`: that may answer an error, and its contract does not say what the text
 // holds then.
 fn write_refused(out: &mut Text, bytes: &[u8], refusal: Refusal)
     ensures { Adds out.old (refused_text bytes.now refusal) out.new }
 {
-    out.text(b": refused ");
-    out.number(u64::from(refusal.number()));
-    write_offset(out, refusal.offset());
-    write_cause(out, refusal.cause());
+    out.text(b": ");
+    write_refusal(out, refusal);
     out.text(b", ");
     out.text(refusal.words().as_bytes());
     out.text(b"\n");

@@ -24,8 +24,9 @@ pub(crate) fn refusal_name(number: usize) -> &'static [u8]
         11 => b"repeated tag",
         12 => b"line too long",
         13 => b"short buffer",
+        14 => b"misfit ends",
         15 => b"no match",
-        // No refusal has the number 0 or 14.
+        // No refusal has the number 0.
         _ => b"",
     }
 }

@@ -1,4 +1,5 @@
--- The lengths of the tags, one by one, and how they compare.
+-- The lengths of the tags, one by one, and how they compare. These are lemmas, which `lawful` of `TagOrder` needs: a reader of the
+-- definitions may skip them.
 use Rattle.std.specs.Prelude.{◌≡◌, ℕ, zero, suc, ◌+◌, ◌/◌, ◌%◌, ◌^◌, ◌<◌, ◌≤◌, true, cond, ◌⊎◌, List, [], ◌∷◌, length, replicate, nat_lt, slice_index, refl}
 use Rattle.std.specs.declared.cmp.Ordering.TheVariants.{Less, Equal, Greater}
 use Rattle.std.specs.declared.cmp.Ordering.{Ordering}

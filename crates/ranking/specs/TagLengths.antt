@@ -1,9 +1,13 @@
 -- The lengths of the tags of a trail, tag 1 first. The length of a tag is how many symbols have it.
-use Rattle.std.specs.Prelude.{ℕ, ◌+◌, ◌/◌, ◌%◌, List, [], ◌∷◌}
+use Rattle.std.specs.Prelude.{ℕ, ◌+◌, ◌/◌, ◌%◌, List, [], ◌∷◌, replicate}
 use Rattle.std.specs.declared.cmp.Ordering.TheVariants.{Less, Equal, Greater}
 use Rattle.std.specs.declared.cmp.Ordering.{Ordering}
 use Rattle.std.specs.Ordering.{ordering_then}
 use Rattle.ranking.specs.Numbers.{ordered}
+
+-- the lengths of no symbols: 0 for each of the eight tags
+abbrev pub no_lengths : List ℕ
+no_lengths = replicate 8 0
 
 -- the lengths with one symbol more: each tag that is in the symbol's set is one symbol longer. Whether tag 1 is in a set is its lowest
 -- bit, and half of the set has the other tags, one number lower each

@@ -1,7 +1,6 @@
 // By extent: the more tags the symbols have, counted over all symbols, the higher.
-ghost use Rattle.std.specs.Prelude.{◌+◌};
 ghost use Rattle.ranking.specs.Numbers.{ordered};
-ghost use Rattle.ranking.specs.TagSets.{tags_in};
+ghost use Rattle.ranking.specs.TagSets.{no_extent, extent_with};
 ghost use Rattle.std.proofs.Common.{rules};
 
 use crate::Ranking;
@@ -14,9 +13,9 @@ pub struct Extent;
 impl Ranking for Extent {
     type Measure = u32;
 
-    ghost start = { λ _. 0 };
+    ghost start = { λ _. no_extent };
 
-    ghost stepped = { λ _ count tags. count + tags_in tags };
+    ghost stepped = { λ _ extent tags. extent_with extent tags };
 
     ghost compared = { λ _ a b. ordered a b };
 

@@ -2,7 +2,7 @@
 //!
 //! A ranking begins with the measure `start`, steps it once for each symbol of a trail, from the first to the last, by the set of the
 //! tags that the symbol belongs to, and compares the measures that come out. Two rankings ship, `Extent` and `TagOrder`; others may
-//! be written.
+//! be written. An `Either` of two rankings is one too, so that one list may mix them.
 #![tactic(auto)]
 
 ghost use Rattle.std.specs.Prelude.{◌≡◌, ℕ};
@@ -13,6 +13,7 @@ ghost use Rattle.std.proofs.Common.{rules};
 use std::cmp::Ordering;
 
 pub mod extent;
+mod one_of_two;
 pub mod tag_order;
 
 pub use extent::Extent;
@@ -58,6 +59,7 @@ pub trait Ranking {
 #[cfg(test)]
 mod tests {
     use super::*;
+    use either::{Left, Right};
 
     // Calls every two trails equal.
     #[derive(Clone, Copy)]
@@ -124,5 +126,19 @@ mod tests {
                 .compare(&three(&Alike, 1, 2, 3), &three(&Alike, 0, 0, 0))
                 .is_eq()
         );
+    }
+
+    #[test]
+    fn two_rankings_in_one_list(rt: HostRuntime) {
+        let rankings = [Left(Extent), Right(TagOrder)];
+        let lengths = [1, 1, 1, 1, 1, 1, 1, 1];
+        assert_eq!(rt; three(&rankings[0], 1, 0, 254), Left(8));
+        assert_eq!(rt; three(&rankings[1], 1, 0, 254), Right(lengths));
+        for ranking in &rankings {
+            let some = three(ranking, 1, 0, 254);
+            let more = three(ranking, 1, 1, 0);
+            let first_is_higher = ranking.compare(&some, &more).is_gt();
+            assert_eq!(rt; first_is_higher, ranking.is_left());
+        }
     }
 }

@@ -1,6 +1,5 @@
 // By the tags in their order: the longer tag 1 the higher; where it is as long, the longer tag 2, and so on to tag 8.
-ghost use Rattle.std.specs.Prelude.{replicate};
-ghost use Rattle.ranking.specs.TagLengths.{longer_by, first_difference};
+ghost use Rattle.ranking.specs.TagLengths.{no_lengths, longer_by, first_difference};
 ghost use Rattle.ranking.specs.Lengths.{swapped, transitive, same_step};
 
 use crate::Ranking;
@@ -17,7 +16,7 @@ pub struct TagOrder;
 impl Ranking for TagOrder {
     type Measure = [u8; TAGS];
 
-    ghost start = { λ _. replicate 8 0 };
+    ghost start = { λ _. no_lengths };
 
     ghost stepped = { λ _ lengths tags. longer_by lengths tags };
 

@@ -18,14 +18,14 @@ covered_by : {R Q : ℕ → ℕ → Type 0} → ((l r : ℕ) → R l r → Q l r
 covered_by f i h = record { left = h.left; right = h.right; from = h.from; to = h.to; reads = f h.left h.right h.reads }
 
 module _ {S : Type 0} (meaning : ℕ → S → Bool) (codes : List ℕ) where
-  abbrev admits : ℕ → S → Bool
+  abbrev pub admits : ℕ → S → Bool
   admits = test_admits meaning codes
 
   -- by positions
-  abbrev passes : ℕ → S → Bool
+  abbrev pub passes : ℕ → S → Bool
   passes k s = meaning (get_or codes k 0) s
 
-  same : (k : ℕ) (s : S) → admits (k + 1) s ≡ passes k s
+  pub same : (k : ℕ) (s : S) → admits (k + 1) s ≡ passes k s
   same k s = ap (λ j. meaning (get_or codes j 0) s) (let e : k + 1 - 1 ≡ k = omega arith in e)
 
   rows_drop : (n l : ℕ) (line : List S) (rows : List ℕ) → RowsOf passes n line rows → RowsOf passes n (drop l line) (drop l rows)

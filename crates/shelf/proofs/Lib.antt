@@ -1,3 +1,6 @@
 pub mod Bridging
+pub mod HistorySteps
 pub mod LanguageLaws
 pub mod Answering
+pub mod Wording
+pub mod Splitting

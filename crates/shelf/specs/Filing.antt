@@ -9,18 +9,23 @@ use Rattle.pattern.specs.Scanning.{syntax_of}
 use Rattle.pattern.specs.Tokens.{Reading}
 use Rattle.shelf.specs.declared.refusal.Refusal.{Refusal}
 use Rattle.shelf.specs.declared.refusal.Refusal.TheVariants.{NoSuchPlace, PlaceTaken, Unlawful}
-use Rattle.shelf.specs.Places.{held_at, standing}
+use Rattle.shelf.specs.Places.{Register, held_at, standing}
 
+-- a pattern or its fault, the fault as a refusal
 abbrev pub unlawful : Result Syntax Fault → Result Syntax Refusal
 unlawful (Ok x) = Ok x
 unlawful (Err f) = Err (Unlawful f)
 
--- the pattern that is filed, or the first refusal: by the place, by what stands there, by the bytes
-abbrev pub filing : Reading → List (Option Pattern) → ℕ → List ℕ → Result Syntax Refusal
-filing reading places place bytes =
+-- the pattern that is filed, or the first refusal: by the place, by what a register has there, by the bytes
+abbrev pub filing_in : Reading → Register → ℕ → List ℕ → Result Syntax Refusal
+filing_in reading register place bytes =
     cond (nat_lt place 10)
-    (elim (held_at places place) [ None ↦ unlawful (syntax_of reading bytes) | Some x ↦ Err PlaceTaken ])
+    (elim (register place) [ None ↦ unlawful (syntax_of reading bytes) | Some x ↦ Err PlaceTaken ])
     (Err NoSuchPlace)
+
+-- the same, by the places of a shelf
+abbrev pub filing : Reading → List (Option Pattern) → ℕ → List ℕ → Result Syntax Refusal
+filing reading places place bytes = filing_in reading (held_at places) place bytes
 
 -- how many tests and tags it has
 abbrev pub counts : Result Syntax Refusal → Result (ℕ × ℕ) Refusal
@@ -49,5 +54,6 @@ abbrev pub taken_away : Result Syntax Refusal → Result (Unit {0}) Refusal
 taken_away (Ok x) = Ok tt
 taken_away (Err r) = Err r
 
+-- what withdrawing answers: that the pattern at the place is taken away, or the refusal, by the place and by what stands there
 abbrev pub withdrawing : List (Option Pattern) → ℕ → Result (Unit {0}) Refusal
 withdrawing places place = taken_away (standing places place)

@@ -1,7 +1,9 @@
 pub mod Asking
 pub mod Filing
+pub mod Histories
 pub mod Languages
 pub mod Matching
 pub mod Places
 pub mod Refusals
 pub mod Reports
+pub mod Splits

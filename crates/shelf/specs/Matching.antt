@@ -1,4 +1,4 @@
--- What a pattern reads of a line. Nothing here speaks of an automaton.
+-- What a pattern reads of a line. No automaton stands in these definitions.
 use Rattle.std.specs.Prelude.{◌≡◌, ℕ, ◌-◌, ◌≤◌, Bool, true, List, [], ◌∷◌, length, slice_index, slice_range}
 use Rattle.pattern.specs.Expressions.{Expr, Word}
 

@@ -4,7 +4,7 @@ use Rattle.pattern.specs.declared.kept.Pattern.{Pattern}
 use Rattle.pattern.specs.Expressions.{Syntax}
 use Rattle.shelf.specs.declared.refusal.Refusal.{Refusal}
 use Rattle.shelf.specs.declared.refusal.Refusal.TheVariants.{LineTooLong, BufferTooShort, NoMatch}
-use Rattle.shelf.specs.Places.{standing}
+use Rattle.shelf.specs.Places.{Register, held_at, standing_in}
 use Rattle.automaton.specs.Stretches.{Longest, NoneReads, Marks}
 use Rattle.shelf.specs.Matching.{test_admits, Reads}
 
@@ -13,9 +13,13 @@ abbrev pub for_line : Result Syntax Refusal → ℕ → Result Syntax Refusal
 for_line (Err refusal) symbols = Err refusal
 for_line (Ok x) symbols = cond (nat_le symbols 160) (Ok x) (Err LineTooLong)
 
--- the pattern by which a line of so many symbols is reported, or the refusal: by the place, by what stands there, by the line
+-- the pattern by which a line of so many symbols is reported, or the refusal: by the place, by what a register has there, by the line
+abbrev pub asked_in : Register → ℕ → ℕ → Result Syntax Refusal
+asked_in register place symbols = for_line (standing_in register place) symbols
+
+-- the same, by the places of a shelf
 abbrev pub asked : List (Option Pattern) → ℕ → ℕ → Result Syntax Refusal
-asked places place symbols = for_line (standing places place) symbols
+asked places place symbols = asked_in (held_at places) place symbols
 
 -- the longest stretch, or that none reads
 abbrev pub LongestBy : {S : Type 0} → (ℕ → S → Bool) → Result Syntax Refusal → List S → Result (ℕ × ℕ) Refusal → Type 0

@@ -1,21 +1,25 @@
 // A shelf of ten places for patterns, over any notation.
 #![tactic(auto)]
 
-ghost use Rattle.std.specs.Prelude.{◌≡◌, ◌<◌, replicate, is_ok, if◌then◌else◌, None, Ok, Err, MatchResult, OnOk, slice_set};
+ghost use Rattle.std.specs.Prelude.{◌≡◌, ◌<◌, [], replicate, is_ok, if◌then◌else◌, None, Ok, Err, MatchResult, OnOk, slice_set};
 ghost use Rattle.pattern.specs.Patterns.{syntax};
 ghost use Rattle.pattern.specs.Tokens.{SameReading};
 ghost use Rattle.shelf.specs.Places.{held_at, standing};
 ghost use Rattle.shelf.specs.Filing.{filing, counts, FiledAfter, Fileable, Readable, withdrawing};
+ghost use Rattle.shelf.specs.Histories.{a_filing, a_withdrawal, FilingRight, WithdrawalRight, AsLeftBy, InEveryHistory};
 
 use alphabet::{Alphabet, Notation};
 use pattern::kept::Pattern;
 
 pub mod refusal;
 mod reports;
+mod splits;
 
 use refusal::Refusal;
+pub use splits::part_of_line;
 
-const PLACES: usize = 10;
+// How many places a shelf has.
+pub const PLACES: usize = 10;
 
 #[derive(Drop)]
 pub struct Shelf<N: Notation> {
@@ -28,6 +32,7 @@ impl<N: Notation> Shelf<N> {
     pub fn new(notation: N) -> Shelf<N>
         ensures all_bare { result.places ≡ replicate 10 None }
         ensures takes_notation { result.notation ≡ notation }
+        ensures left_by_no_act { AsLeftBy N.Alphabet.meaning N.Notation.reading notation [] result }
     {
         Shelf {
             notation,
@@ -52,6 +57,7 @@ impl<N: Notation> Shelf<N> {
         ensures asks_only_where_it_may_file { (Readable self.old.places place bytes.now → ⊥) → self.new.notation ≡ self.old.notation }
         ensures keeps_meaning { N.Alphabet.meaning self.new.notation ≡ N.Alphabet.meaning self.old.notation }
         ensures keeps_reading { SameReading (N.Notation.reading self.new.notation) (N.Notation.reading self.old.notation) }
+        ensures right_in_every_history { InEveryHistory N.Alphabet.meaning N.Notation.reading self.old self.new (a_filing place bytes.now) (λ n register. FilingRight (N.Notation.reading n) register place bytes.now result) }
     {
         match self.places.get(place) {
             None => return Err(Refusal::NoSuchPlace),
@@ -70,6 +76,7 @@ impl<N: Notation> Shelf<N> {
         ensures only_that_place_is_bared { self.new.places ≡ (if is_ok result then slice_set self.old.places place None else self.old.places) }
         ensures nothing_stands_there { held_at self.new.places place ≡ None }
         ensures keeps_notation { self.new.notation ≡ self.old.notation }
+        ensures right_in_every_history { InEveryHistory N.Alphabet.meaning N.Notation.reading self.old self.new (a_withdrawal place) (λ n register. WithdrawalRight register place result) }
     {
         self.pattern_at(place)?;
         self.places[place] = None;

@@ -1,10 +1,11 @@
 // Why a call on the shelf is turned down.
 ghost use Rattle.std.specs.Prelude.{◌≡◌, Some};
-ghost use Rattle.shelf.specs.Refusals.{refusal_number, refusal_words, refusal_offset, refusal_cause};
+ghost use Rattle.shelf.specs.Refusals.{refusal_number, refusal_words, refusal_offset, refusal_cause, unsplit};
 ghost use Rattle.shelf.specs.declared.refusal.Refusal.TheVariants.{Unlawful};
 
 use alphabet::Cause;
 use pattern::fault::Fault;
+use splitting::Unsplit;
 use std::error::Error;
 use std::fmt;
 
@@ -16,15 +17,27 @@ pub enum Refusal {
     Unlawful(Fault),
     LineTooLong,
     BufferTooShort,
+    EndsMisfit,
     NoMatch,
 }
 
-// By hand, since a derived `From` has no contract, and contracts name what a `?` makes.
+// These two by hand, since a derived `From` has no contract, and contracts name what a `?` makes.
 impl From<Fault> for Refusal {
     ghost from_gives = { λ f r. r ≡ Unlawful f };
 
     fn from(value: Fault) -> Refusal {
         Refusal::Unlawful(value)
+    }
+}
+
+impl From<Unsplit> for Refusal {
+    ghost from_gives = { λ u r. r ≡ unsplit u };
+
+    fn from(value: Unsplit) -> Refusal {
+        match value {
+            Unsplit::NoRoom => Refusal::BufferTooShort,
+            Unsplit::NoTrail => Refusal::NoMatch,
+        }
     }
 }
 
@@ -51,6 +64,7 @@ impl Refusal {
             Refusal::Unlawful(fault) => fault.number(),
             Refusal::LineTooLong => 12,
             Refusal::BufferTooShort => 13,
+            Refusal::EndsMisfit => 14,
             Refusal::NoMatch => 15,
         }
     }
@@ -66,6 +80,7 @@ impl Refusal {
             Refusal::Unlawful(fault) => fault.words(),
             Refusal::LineTooLong => "a line of more than 160 symbols",
             Refusal::BufferTooShort => "the buffer is too short",
+            Refusal::EndsMisfit => "the ends are not those of a stretch of the line",
             Refusal::NoMatch => "nothing reads",
         }
     }

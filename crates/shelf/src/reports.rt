@@ -3,6 +3,7 @@ ghost use Rattle.std.specs.Prelude.{◌≡◌, ℕ, List, length, Ok, Err, Match
 ghost use Rattle.automaton.specs.RowList.{rows_of};
 ghost use Rattle.pattern.specs.Expressions.{Expr, Syntax};
 ghost use Rattle.shelf.specs.Asking.{Asked};
+ghost use Rattle.shelf.specs.Histories.{a_longest_call, a_marking, LongestRight, MarkingRight, InEveryHistory};
 ghost use Rattle.shelf.specs.Languages.{ReadsByLanguage};
 ghost use Rattle.shelf.specs.Matching.{test_admits};
 ghost use Rattle.shelf.specs.Reports.{asked, LongestBy, with_room, MarksBy};
@@ -28,6 +29,7 @@ impl<N: Notation> Shelf<N> {
     pub fn longest(&self, place: usize, line: &[N::Symbol]) -> Result<(usize, usize), Refusal>
         ensures longest_or_refusal { LongestBy (N.Alphabet.meaning self.now.notation) (asked self.now.places place (length line.now)) line.now result }
         ensures reads_by_the_language { (codes : List ℕ) (e : Expr) → ReadsByLanguage (test_admits (N.Alphabet.meaning self.now.notation) codes) e line.now }
+        ensures right_in_every_history { InEveryHistory N.Alphabet.meaning N.Notation.reading self.now self.now (a_longest_call place line.now) (λ n register. LongestRight (N.Alphabet.meaning n) register place line.now result) }
     {
         let (automaton, rows) = self.asked(place, line)?;
         automaton.longest(&rows).ok_or(Refusal::NoMatch)
@@ -41,7 +43,8 @@ impl<N: Notation> Shelf<N> {
         line: &[N::Symbol],
         buffer: &mut [u8],
     ) -> Result<usize, Refusal>
-        ensures { MarksBy (N.Alphabet.meaning self.now.notation) (with_room (asked self.now.places place (length line.now)) (length line.now) (length buffer.old)) line.now buffer.old buffer.new result }
+        ensures marks_or_refusal { MarksBy (N.Alphabet.meaning self.now.notation) (with_room (asked self.now.places place (length line.now)) (length line.now) (length buffer.old)) line.now buffer.old buffer.new result }
+        ensures right_in_every_history { InEveryHistory N.Alphabet.meaning N.Notation.reading self.now self.now (a_marking place line.now (length buffer.old)) (λ n register. MarkingRight (N.Alphabet.meaning n) register place line.now buffer.old buffer.new result) }
     {
         let (automaton, rows) = self.asked(place, line)?;
         automaton.mark(&rows, buffer).ok_or(Refusal::BufferTooShort)

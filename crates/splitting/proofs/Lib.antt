@@ -2,6 +2,7 @@ mod BitLoops
 mod Choosing
 mod Following
 mod Fronts
+pub mod Lengths
 mod Nearness
 mod Offering
 mod Optimal

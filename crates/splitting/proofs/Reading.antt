@@ -8,6 +8,7 @@ use Rattle.automaton.specs.Reads.{Path, Walk}
 use Rattle.ranking.specs.Ranks.{rank_of}
 use Rattle.splitting.specs.Steps.{rank_back}
 use Rattle.splitting.specs.Trails.{Admitted, Trail, sets_along, Before, Over}
+use Rattle.splitting.proofs.Lengths.{length_of}
 use Rattle.splitting.proofs.Fronts.{may_stand, Front, Ends, Full, Earlier, Rules}
 
 -- the positions of a list may stand at the places from k on
@@ -23,12 +24,6 @@ module _ {S : Type 0} (admits : ℕ → S → Bool) (codes : ℕ) where
   down : (s : S) (stretch : List S) (k : ℕ) (t : List ℕ) → StandFrom (may_stand admits codes (s ∷ stretch)) (suc k) t → StandFrom (may_stand admits codes stretch) k t
   down s stretch k [] x = tt
   down s stretch k (q ∷ t) x = (x.0, x.1, down s stretch (suc k) t x.2)
-
-  length_of : (stretch : List S) (t : List ℕ) → Admitted admits codes stretch t → length t ≡ length stretch
-  length_of [] [] x = refl
-  length_of [] (q ∷ t) x = absurd x
-  length_of (s ∷ stretch) [] x = absurd x
-  length_of (s ∷ stretch) (q ∷ t) x = ap suc (length_of stretch t x.3)
 
   by_places : (stretch : List S) (t : List ℕ) → Admitted admits codes stretch t → StandFrom (may_stand admits codes stretch) 0 t
   by_places [] [] x = tt
@@ -135,7 +130,7 @@ module _ {M : Type 0} (start : M) (stepped : M → ℕ → M) (compared : M → 
       ap (λ m. compared m (rank_of start stepped (sets_along tags (reverse w)))) (rank_read start stepped tags v)
       ∙ ap (compared (rank_back start stepped tags v)) (rank_read start stepped tags w)
 
-  pub over_read : (w v : List ℕ) → length w ≡ length v → Rules compared (rank_back start stepped tags) w v → Over start stepped compared tags (reverse w) (reverse v)
+  pub over_read : (w v : List ℕ) → length w ≡ length v → Rules compared (rank_back start stepped tags) w v → Over (λ t. rank_of start stepped (sets_along tags t)) compared (reverse w) (reverse v)
   over_read w v e (Rules.same x) = Over.same (ap reverse x)
   over_read w v e (Rules.higher x) = Over.higher (ranks w v ∙ x)
   over_read w v e (Rules.earlier x y) = Over.earlier (ranks w v ∙ x) (before_read w v e y)

@@ -11,9 +11,10 @@ use Rattle.automaton.specs.declared.machine.Automaton.{Automaton}
 use Rattle.automaton.specs.Bit.{In}
 use Rattle.automaton.proofs.BitTests.{bit_in, in_bit}
 use Rattle.ranking.specs.Laws.{Lawful}
+use Rattle.ranking.specs.Ranks.{rank_of}
 use Rattle.splitting.specs.Choice.{Pick}
 use Rattle.splitting.specs.Steps.{back_from, rank_back}
-use Rattle.splitting.specs.Trails.{Trail, Over, Written, test_numbers}
+use Rattle.splitting.specs.Trails.{Trail, sets_along, Over, Written, test_numbers}
 use Rattle.splitting.proofs.Fronts.{may_stand, Ends, Full, Rules, same, Cells}
 use Rattle.splitting.proofs.Nearness.{back_length}
 use Rattle.splitting.proofs.Optimal.{best_full, no_full}
@@ -46,10 +47,12 @@ module _ {S : Type 0} {a : Automaton} {admits : ℕ → S → Bool} {codes : ℕ
         → Written start stepped compared a admits codes tags stretch was is
     written was w is full best front rest = record {
       positions = reverse w;
-      trail = to_read a admits codes stretch w full;
-      best = λ u x.
-          let f = from_read a admits codes stretch u x in
-          subst (λ l. Over start stepped compared tags (reverse w) l) (reverse-reverse u) (over_read start stepped compared tags w (reverse u) (full.whole ∙ sym f.whole) (best (reverse u) f));
+      best = record {
+        trail = to_read a admits codes stretch w full;
+        over = λ u x.
+            let f = from_read a admits codes stretch u x in
+            subst (λ l. Over (λ t. rank_of start stepped (sets_along tags t)) compared (reverse w) l) (reverse-reverse u) (over_read start stepped compared tags w (reverse u) (full.whole ∙ sym f.whole) (best (reverse u) f));
+      };
       front = front;
       rest = rest;
     }

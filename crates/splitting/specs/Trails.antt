@@ -1,6 +1,6 @@
 -- The trails of a stretch of symbols, and which of them is best. A trail is a list of positions of an automaton, one for each symbol,
 -- from the first symbol to the last.
-use Rattle.std.specs.Prelude.{◌≡◌, ℕ, ◌+◌, ◌<◌, ◌≤◌, Bool, true, List, [], ◌∷◌, map, length, take, drop, Ok, Err, Result, slice_index, slice_index_or}
+use Rattle.std.specs.Prelude.{◌≡◌, ℕ, ◌+◌, ◌<◌, ◌≤◌, Bool, true, List, [], ◌∷◌, map, length, take, drop, Ok, Err, Result, slice_index}
 use Rattle.std.specs.declared.cmp.Ordering.TheVariants.{Less, Equal}
 use Rattle.std.specs.declared.cmp.Ordering.{Ordering}
 use Rattle.automaton.specs.declared.machine.Automaton.{Automaton}
@@ -26,18 +26,24 @@ pub record Trail {S : Type 0} (a : Automaton) (admits : ℕ → S → Bool) (cod
 abbrev pub sets_along : List ℕ → List ℕ → List ℕ
 sets_along tags t = map (λ q. slice_index tags q) t
 
--- the tie order: at the last symbol at which the two differ, t has the smaller position
+-- the tie order: at the last symbol at which the two differ, t has the smaller number
 pub record Before (t u : List ℕ) : Type 0 where
   pub place : ℕ
   pub within : place < length t
-  pub lower : slice_index_or t place 0 < slice_index u place
+  pub lower : slice_index t place < slice_index u place
   pub after : (j : ℕ) → place < j → j < length t → slice_index t j ≡ slice_index u j
 
 -- u is t, or ranks lower than t, or ranks equal and comes later in the tie order
-pub data Over {M : Type 0} (start : M) (stepped : M → ℕ → M) (compared : M → M → Ordering) (tags t u : List ℕ) : Type 0 where
-  same : u ≡ t → Over start stepped compared tags t u
-  higher : compared (rank_of start stepped (sets_along tags u)) (rank_of start stepped (sets_along tags t)) ≡ Less → Over start stepped compared tags t u
-  earlier : compared (rank_of start stepped (sets_along tags u)) (rank_of start stepped (sets_along tags t)) ≡ Equal → Before t u → Over start stepped compared tags t u
+pub data Over {M : Type 0} (rank : List ℕ → M) (compared : M → M → Ordering) (t u : List ℕ) : Type 0 where
+  same : u ≡ t → Over rank compared t u
+  higher : compared (rank u) (rank t) ≡ Less → Over rank compared t u
+  earlier : compared (rank u) (rank t) ≡ Equal → Before t u → Over rank compared t u
+
+-- whatever it is that makes a list of numbers a trail: t is one, and every other ranks lower, or ranks equal and comes later in the
+-- tie order
+pub record Best {M : Type 0} (IsTrail : List ℕ → Type 0) (rank : List ℕ → M) (compared : M → M → Ordering) (t : List ℕ) : Type 0 where
+  pub trail : IsTrail t
+  pub over : (u : List ℕ) → IsTrail u → Over rank compared t u
 
 -- the numbers of the tests of some positions: the test p + 1 has the position p
 abbrev pub test_numbers : List ℕ → List ℕ
@@ -51,8 +57,7 @@ module _ {S M : Type 0} (start : M) (stepped : M → ℕ → M) (compared : M �
   -- the best trail is written at the front of the bytes, in place of what they held before, and what stands behind is as it was
   pub record Written (before after : List ℕ) : Type 0 where
     pub positions : List ℕ
-    pub trail : Trail a admits codes stretch positions
-    pub best : (u : List ℕ) → Trail a admits codes stretch u → Over start stepped compared tags positions u
+    pub best : Best (Trail a admits codes stretch) (λ t. rank_of start stepped (sets_along tags t)) compared positions
     pub front : take (length stretch) after ≡ test_numbers positions
     pub rest : drop (length stretch) after ≡ drop (length stretch) before
 

@@ -17,6 +17,9 @@ mod sweep;
 
 use sweep::{Fronts, walk_back};
 
+/// How many measures the work buffer must have room for, at least: two for each position.
+pub const MEASURES: usize = 2 * POSITIONS;
+
 /// Why no trail is written.
 #[derive(Clone, Copy, Debug, PartialEq, Eq)]
 pub enum Unsplit {
@@ -31,7 +34,7 @@ pub enum Unsplit {
 /// with the smaller position comes first, at the last symbol at which they differ.
 ///
 /// `codes` has the alphabet's number of the test of each position, and `tags` the set of the tags that each position belongs to, bit
-/// k - 1 for tag k. `work` is room for 128 measures; what it holds does not matter, before or after.
+/// k - 1 for tag k. `work` is room for at least 128 measures (`MEASURES`); what it holds does not matter, before or after.
 ///
 /// With `Ok` the trail stands at the front of `trail`, as the numbers of the tests, each one more than its position; what stands
 /// behind is as it was. An `Err` leaves `trail` as it was.
@@ -49,7 +52,7 @@ pub fn best_trail<A: Alphabet, R: Ranking>(
     ensures { BestTrail (R.Ranking.start ranking.now) (R.Ranking.stepped ranking.now) (R.Ranking.compared ranking.now) automaton.now (λ q s. A.Alphabet.meaning alphabet.now (slice_index codes.now q) s) (length codes.now) tags.now stretch.now (length work.old) trail.old trail.new result }
 {
     let symbols = stretch.len();
-    if symbols > MOST_SYMBOLS || trail.len() < symbols || work.len() < 2 * POSITIONS {
+    if symbols > MOST_SYMBOLS || trail.len() < symbols || work.len() < MEASURES {
         return Err(Unsplit::NoRoom);
     }
     if symbols == 0 {

@@ -9,8 +9,11 @@ use Rattle.pattern.specs.Gathering.{Numerable}
 use Rattle.pattern.specs.Nodes.{source_of, Did}
 use Rattle.automaton.specs.Bit.{bit}
 use Rattle.pattern.specs.Positions.{has_empty, begins, ends, follows, size, numbered}
+use Rattle.pattern.specs.Tags.{tag_set}
+use Rattle.pattern.specs.TagWalks.{Taggable}
 use Rattle.pattern.specs.Trees.{tree}
 use Rattle.pattern.proofs.Numbering.{numbers}
+use Rattle.pattern.proofs.TagNumbers.{in_range}
 use Rattle.pattern.proofs.Steps.{codes_none, tags_none, kind_is}
 use Rattle.pattern.proofs.Tables.{stands_tree, same_syntax}
 use Rattle.pattern.proofs.Agree.{whole_scan}
@@ -59,8 +62,14 @@ module _ {A r : Reader} {k : Part} (start : A.pos ≡ 0) (blank : A.used ≡ 0) 
   numerable : Numerable r.nodes k.root
   numerable = record { in_table = room; expr = d.expr; stands = d.means.stands; low = 1; from_one = omega arith; to_64 = omega (arith, counted, r.few); in_order = in_order }
 
+  taggable : Taggable r.nodes k.root
+  taggable = record { in_table = room; expr = d.expr; stands = d.means.stands; in_range = in_range d.reads }
+
 pub automaton-machine-requires : goal.automaton-machine-requires
 automaton-machine-requires c = numerable refl refl c.in_ok-whole.ensures
+
+pub tag_sets-sets-requires : goal.tag_sets-sets-requires
+tag_sets-sets-requires c = taggable refl refl c.in_ok-whole.ensures
 
 pub invariant_of-result : goal.invariant_of-result
 invariant_of-result c =
@@ -76,6 +85,7 @@ invariant_of-result c =
       beginnings = at (λ x. (i : ℕ) → bit c.automaton-machine.result.first i ≡ begins x (i + 1)) p.first;
       endings = at (λ x. (i : ℕ) → bit c.automaton-machine.result.last i ≡ ends x (i + 1)) p.last;
       followings = at (λ x. (i : ℕ) → (j : ℕ) → i < 64 → bit (get_or c.automaton-machine.result.follow i 0) j ≡ follows x (i + 1) (j + 1)) p.follow;
+      sets_are = at (λ x. (q : ℕ) → get_or c.tag_sets-sets.result q 0 ≡ tag_set x (q + 1)) (c.tag_sets-sets.ensures d.expr d.means.stands);
     }
 
 pub returns : goal.returns

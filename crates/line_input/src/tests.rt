@@ -1,0 +1,95 @@
+// Lines of inputs that come in pieces.
+use crate::read_line;
+use std::alloc::Global;
+use std::io;
+use std::io::{BufReader, BufWriter, Read, Write};
+use std::test::Fail;
+use text::line::LineBuffer;
+
+// An input that gives at most so many bytes at a time, and counts how often it was asked.
+#[derive(Drop)]
+struct Pieces<'a> {
+    left: &'a [u8],
+    most: usize,
+    asked: u64,
+}
+
+impl Read for Pieces<'_> {
+    fn read(&mut self, buf: &mut [u8]) -> io::Result<usize> {
+        self.asked = self.asked.wrapping_add(1);
+        let n = self.left.len().min(self.most).min(buf.len());
+        buf[..n].copy_from_slice(&self.left[..n]);
+        self.left = &self.left[n..];
+        Ok(n)
+    }
+}
+
+// An output that counts how often it was written out.
+#[derive(Drop)]
+struct Counter {
+    flushes: u64,
+}
+
+impl Write for Counter {
+    fn write(&mut self, buf: &[u8]) -> io::Result<usize> {
+        Ok(buf.len())
+    }
+
+    fn flush(&mut self) -> io::Result<()> {
+        self.flushes = self.flushes.wrapping_add(1);
+        Ok(())
+    }
+}
+
+// Whether the input has these lines and no more, and the output was written out each time before the input was asked.
+fn has_lines(alloc: Global, whole: &[u8], most: usize, lines: &[&[u8]]) -> io::Result<bool> {
+    let pieces = Pieces {
+        left: whole,
+        most,
+        asked: 0,
+    };
+    let mut input = BufReader::new(alloc, pieces)?;
+    let mut output = BufWriter::new(alloc, Counter { flushes: 0 })?;
+    let mut line: LineBuffer<201> = LineBuffer::new();
+    for due in lines {
+        output.write_all(b"?")?;
+        let there = read_line(&mut input, &mut output, &mut line)?;
+        if !there || line.bytes() != *due {
+            return Ok(false);
+        }
+        if input.get_ref().asked != output.get_ref().flushes {
+            return Ok(false);
+        }
+    }
+    let there = read_line(&mut input, &mut output, &mut line)?;
+    Ok(!there && line.bytes().is_empty() && output.buffer().is_empty())
+}
+
+// The same whether the input comes byte by byte, in threes or as a whole.
+fn always_has_lines(alloc: Global, whole: &[u8], lines: &[&[u8]]) -> io::Result<bool> {
+    Ok(
+        has_lines(alloc, whole, 1, lines)?
+            && has_lines(alloc, whole, 3, lines)?
+            && has_lines(alloc, whole, 8192, lines)?,
+    )
+}
+
+#[test]
+fn lines(rt: HostRuntime) -> Result<(), Fail> {
+    let alloc = rt.alloc();
+    assert!(rt; always_has_lines(alloc, b"", &[])?);
+    assert!(rt; always_has_lines(alloc, b"\n", &[b""])?);
+    assert!(rt; always_has_lines(alloc, b"ab\ncd\n", &[b"ab", b"cd"])?);
+    assert!(rt; always_has_lines(alloc, b"ab\n\n\ncd", &[b"ab", b"", b"", b"cd"])?);
+    assert!(rt; always_has_lines(alloc, b"a\r\n", &[b"a\r"])?);
+    Ok(())
+}
+
+#[test]
+fn long_line(rt: HostRuntime) -> Result<(), Fail> {
+    let alloc = rt.alloc();
+    let mut whole = [b'a'; 9000];
+    whole[8900] = b'\n';
+    assert!(rt; always_has_lines(alloc, &whole, &[&[b'a'; 201], &[b'a'; 99]])?);
+    Ok(())
+}

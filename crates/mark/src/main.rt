@@ -1,0 +1,29 @@
+// Takes orders to a shelf of letters, one a line, and prints the answer to each.
+#![tactic(auto)]
+
+use line_input::read_line;
+use marking::marker::Marker;
+use std::io;
+use std::io::{BufReader, BufWriter, Write};
+use text::buffer::Text;
+use text::line::LineBuffer;
+
+// An order has at most 200 bytes, so one byte more tells that a line is none.
+const FRONT: usize = 201;
+
+fn main(rt: HostRuntime) -> io::Result<()> {
+    let mut input = BufReader::new(rt.alloc(), rt.stdin())?;
+    let mut output = BufWriter::new(rt.alloc(), rt.stdout())?;
+    let mut line: LineBuffer<FRONT> = LineBuffer::new();
+    let mut marker = Marker::new();
+    let mut text = Text::new();
+    // A loop has to be shown to end, so this one has a bound, which no input reaches.
+    for _ in 0..u64::MAX {
+        if !read_line(&mut input, &mut output, &mut line)? {
+            break;
+        }
+        marker.answer(line.bytes(), &mut text);
+        output.write_all(text.bytes())?;
+    }
+    output.flush()
+}

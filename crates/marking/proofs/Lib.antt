@@ -1,0 +1,4 @@
+mod TagCounts
+mod Looks
+mod Lengths
+mod Carrying

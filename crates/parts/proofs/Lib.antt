@@ -1,0 +1,2 @@
+mod Growing
+pub mod SameParts

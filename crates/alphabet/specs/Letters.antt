@@ -17,6 +17,7 @@ range_test low high = low + 256 * (above low high + 1)
 abbrev pub others_test : ℕ → ℕ → ℕ
 others_test low high = (high + 1) % 256 + 256 * (255 - above low high)
 
+-- the test admits the byte: it is one of the run
 abbrev pub letter_meaning : ℕ → ℕ → Bool
 letter_meaning test s = nat_lt (above (test % 256) s) (test / 256)
 
@@ -55,6 +56,7 @@ abbrev pub bracket_reading : List ℕ → Result (ℕ × ℕ) Cause
 bracket_reading [] = Err CutShort
 bracket_reading (b ∷ bytes) = cond (b == 94) (span_test others_test 6 (span_reading bytes)) (span_test range_test 5 (span_dash b bytes))
 
+-- what letters read at the front of bytes: a test and how many bytes it takes, or why there is none
 abbrev pub letter_reading : List ℕ → Result (ℕ × ℕ) Cause
 letter_reading [] = Err CutShort
 letter_reading (b ∷ bytes) =

@@ -6,10 +6,11 @@ use Rattle.alphabet.specs.Readings.{ReadByForms}
 use Rattle.alphabet.specs.declared.Cause.TheVariants.{CutShort, OutOfRange, UnknownForm}
 use Rattle.alphabet.specs.Words.{word_meaning, word_reading}
 
--- 0 to 9
+-- the byte is a digit, 0 to 9
 abbrev pub Digit : ℕ → Type 0
 Digit b = (48 ≤ b) × (b ≤ 57)
 
+-- each of these bytes is a digit
 abbrev pub Digits : List ℕ → Type 0
 Digits [] = Unit {0}
 Digits (d ∷ ds) = Digit d × Digits ds
@@ -19,6 +20,7 @@ abbrev pub value_from : ℕ → List ℕ → ℕ
 value_from before [] = before
 value_from before (d ∷ ds) = value_from (before * 10 + (d - 48)) ds
 
+-- the value of digits, the first counting most
 abbrev pub value : List ℕ → ℕ
 value ds = value_from 0 ds
 

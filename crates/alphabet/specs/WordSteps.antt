@@ -9,7 +9,8 @@ use Rattle.alphabet.specs.declared.Cause.TheVariants.{CutShort, OutOfRange, Unkn
 use Rattle.alphabet.specs.Readings.{UsesSome}
 use Rattle.alphabet.specs.Words.{is_digit, number_end, number_from, number_reading, number_test, word_reading}
 
--- what a byte decides (this and what `#` and `@` are followed by is cited by no proof any more, and stays true)
+-- What one more byte makes of the number. (The check finds by itself what the two lemmas below and the last two of this file say; no
+-- proof cites them.)
 abbrev pub byte_reading : ℕ → ℕ → ℕ → ℕ → List ℕ → ℕ → Result (ℕ × ℕ) Cause
 byte_reading most limit count value rest b =
     cond (is_digit b)

@@ -3,12 +3,13 @@ use Rattle.std.specs.Prelude.{ℕ, ◌+◌, ◌-◌, ◌*◌, ◌/◌, ◌%◌, 
 use Rattle.alphabet.specs.declared.Cause.{Cause}
 use Rattle.alphabet.specs.declared.Cause.TheVariants.{CutShort, OutOfRange, UnknownForm}
 
--- a test's number: the entry, 65536 and the kind, or 131072 for every word
+-- the test admits the word code. The test of an entry is the entry's number, that of a kind is 65536 and the kind's number, and 131072
+-- admits every word.
 abbrev pub word_meaning : ℕ → ℕ → Bool
 word_meaning test s =
     cond (nat_lt test 65536) (s % 65536 == test) (cond (nat_lt test 131072) (s / 65536 == test - 65536) true)
 
--- 0 to 9
+-- the byte is a digit, 0 to 9
 abbrev pub is_digit : ℕ → Bool
 is_digit b = nat_le 48 b && nat_le b 57
 
@@ -34,6 +35,7 @@ abbrev pub number_test : ℕ → Result (ℕ × ℕ) Cause → Result (ℕ × �
 number_test base (Ok number) = Ok (number.0 + base, number.1 + 2)
 number_test base (Err cause) = Err cause
 
+-- what words read at the front of bytes: a test and how many bytes it takes, or why there is none
 abbrev pub word_reading : List ℕ → Result (ℕ × ℕ) Cause
 word_reading [] = Err CutShort
 word_reading (b ∷ bytes) =

@@ -17,11 +17,12 @@ use crate::{Alphabet, Cause, Notation};
 // number and no struct, since the trait has each alphabet keep a test as one number.
 const BYTES: u32 = 256;
 
+/// The notation of letters, whose symbols are bytes.
 #[derive(Clone, Copy)]
 pub struct Letters;
 
 impl Letters {
-    // Letters that read each form as what it admits, and refuse all else for its cause.
+    /// Letters that read each form as what it admits, and refuse all else for its cause.
     #[tactic(auto, using(crate::proofs::LettersRead::letters_read_their_forms))]
     pub fn new() -> Letters
         ensures reads_its_forms { LettersReadTheirForms }

@@ -31,11 +31,12 @@ const ENTRY_DIGITS: usize = 5;
 
 const ENTRY_LIMIT: u32 = 65535;
 
+/// The notation of words, whose symbols are word codes.
 #[derive(Clone, Copy)]
 pub struct Words;
 
 impl Words {
-    // Words that read each form as what it admits, and refuse all else for its cause.
+    /// Words that read each form as what it admits, and refuse all else for its cause.
     #[tactic(auto, using(crate::proofs::WordsRead::words_read_their_forms))]
     pub fn new() -> Words
         ensures reads_its_forms { WordsReadTheirForms }

@@ -1,12 +1,13 @@
 -- Sets of the tests that admit a symbol.
-use Rattle.std.proofs.Common.{◌≡◌, ℕ, zero, suc, ◌+◌, ◌*◌, ◌/◌, ◌%◌, ◌^◌, ◌<◌, Bool, true, false, ◌&&◌, eqb, ltb, List, [], ◌∷◌, ◌++◌, length, get_or, take, get_or-take, sym, refl, ap, ◌∙◌, subst, inl, inr, arith}
+use Rattle.std.proofs.Common.{◌≡◌, ℕ, zero, suc, ◌+◌, ◌*◌, ◌/◌, ◌%◌, ◌^◌, ◌<◌, ◌≤◌, Bool, true, false, cond, ◌&&◌, eqb, ltb, List, [], ◌∷◌, ◌++◌, length, min, get_or, take, get_or-take, sym, refl, ap, ◌∙◌, subst, inl, inr, arith, append_assoc, length-append, length-take}
 use lib.Bits.{bit_or}
+use Rattle.std.specs.List.{push}
 use Rattle.std.proofs.lemmas.Nat.{pow-add, shr-shr, div-mul-add, shl_whole, or_shifted}
 use Rattle.std.proofs.lemmas.Bool.{lt-ltb, le-ltb, eq-eqb, ne_eqb, cases_lt}
 use mir.Val.{bool_byte}
 use Rattle.automaton.specs.Bit.{bit}
 use Rattle.automaton.proofs.BitTests.{bit_none}
-use Rattle.asking.specs.RowTables.{RowOf, RowsOf}
+use Rattle.asking.specs.RowTables.{RowOf, WithTest, RowsOf}
 
 byte_small : (b : Bool) → bool_byte b < 2
 byte_small true = omega arith
@@ -61,12 +62,33 @@ first_codes admits n codes row long (small, r) k = r k ∙ ap (λ m. ltb k m && 
   | inr above ↦ (let f = le-ltb k n above in ap (λ b. b && admits (get_or (take n codes) k 0)) f ∙ sym (ap (λ b. b && admits (get_or codes k 0)) f))
 ]
 
--- one symbol more
-pub rows_more : {S : Type 0} (p : ℕ → S → Bool) (n : ℕ) (line : List S) (rows : List ℕ) (s : S) (row : ℕ) → RowsOf p n line rows → RowOf (λ k. p k s) n row → RowsOf p n (line ++ (s ∷ [])) (rows ++ (row ∷ []))
-rows_more p n [] [] s row a b = (b, tt)
-rows_more p n [] (x ∷ rows) s row a b = absurd a
-rows_more p n (y ∷ line) [] s row a b = absurd a
-rows_more p n (y ∷ line) (x ∷ rows) s row a b = (a.0, rows_more p n line rows s row a.1 b)
+-- where a code is left, fewer than 64 are done
+pub fewer : (rest left done codes : List ℕ) (code : ℕ) → rest ≡ push left code → rest ++ done ≡ take (min 64 (length codes)) codes → length done < 64
+fewer rest left done codes code e s = omega (arith, ap length e, length-append left (code ∷ []), ap length s, length-append rest done, length-take (min 64 (length codes)) codes)
+
+-- a code that is taken from the left goes before those that are done
+pub taken : (rest left done whole : List ℕ) (code : ℕ) → rest ≡ push left code → rest ++ done ≡ whole → left ++ (code ∷ done) ≡ whole
+taken rest left done whole code e s = sym (append_assoc left (code ∷ []) done) ∙ ap (λ r. r ++ done) (sym e) ∙ s
+
+pub none_left : (rest done whole : List ℕ) → length rest ≡ 0 → rest ++ done ≡ whole → done ≡ whole
+none_left [] done whole e s = s
+none_left (x ∷ rest) done whole e s = absurd (omega arith)
+
+as_byte : (b : Bool) → cond b 1 0 ≡ bool_byte b
+as_byte true = refl
+as_byte false = refl
+
+-- one code before the others, in a row that is changed in place
+pub code_asked : (admits : ℕ → Bool) (code : ℕ) (codes : List ℕ) (before after : ℕ) → length codes < 64 → RowOfCodes admits codes before → WithTest (admits code) before after → RowOfCodes admits (code ∷ codes) after
+code_asked admits code codes before after few r e =
+    subst (RowOfCodes admits (code ∷ codes)) (sym (e ∙ ap (λ b. bit_or ((before * 2) % 2 ^ 64) b) (as_byte (admits code)))) (code_before admits code codes before few r)
+
+-- the rows of all symbols, where each is known by its place
+pub rows_by_place : {S : Type 0} (p : ℕ → S → Bool) (n : ℕ) (line : List S) (rows : List ℕ) → length line ≤ length rows
+    → ((i : ℕ) (d : S) → i < length line → RowOf (λ k. p k (get_or line i d)) n (get_or rows i 0)) → RowsOf p n line (take (length line) rows)
+rows_by_place p n [] rows long each = tt
+rows_by_place p n (s ∷ line) [] long each = absurd (omega arith)
+rows_by_place p n (s ∷ line) (row ∷ rows) long each = (each 0 s (omega arith), rows_by_place p n line rows (omega arith) (λ i d h. each (suc i) d (omega arith)))
 
 pub rows_length : {S : Type 0} (p : ℕ → S → Bool) (n : ℕ) (line : List S) (rows : List ℕ) → RowsOf p n line rows → length rows ≡ length line
 rows_length p n [] [] a = refl

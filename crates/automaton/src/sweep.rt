@@ -115,7 +115,7 @@ impl<'a> Sweep<'a> {
 }
 
 // Each symbol's place, and the least start of a stretch that ends after the symbol and reads. The sweep gives the place, since with
-// `enumerate` five of the seven cases of `bench` take longer by a sixth or more.
+// `enumerate` most cases of `bench` take longer by a sixth or more.
 impl Iterator for Sweep<'_> {
     ghost use Rattle.automaton.specs.Tracks.{Swept, GivesEarliest};
 

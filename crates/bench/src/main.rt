@@ -1,5 +1,6 @@
-// The shelf's reports on fixed cases, and the split of the longest stretch by extent. With no argument it prints their answers, and
-// with a number the nanoseconds that each takes, in the best of some rounds of so many runs.
+// The shelf's reports on fixed cases, the split of the longest stretch by extent, and the whole order `?` of the program `mark`. With no
+// argument it prints their answers, and with a number the nanoseconds that each takes, in the best of some rounds of at least so many
+// microseconds.
 #![tactic(auto)]
 
 use alphabet::letters::Letters;
@@ -8,10 +9,12 @@ use shelf::refusal::Refusal;
 use std::env;
 
 mod cases;
+mod order_lines;
 mod room;
 mod timing;
 
 use cases::{Case, Texts};
+use order_lines::Orders;
 use room::{Room, SYMBOLS};
 use timing::{PLACES, time};
 
@@ -24,8 +27,8 @@ fn shelf_of(case: &Case<'_>) -> anyhow::Result<Shelf<Letters>> {
     Ok(shelf)
 }
 
-// Prints the ends of the longest stretch, how many symbols are marked, how many tags have a part of that stretch, and the sum of the
-// numbers of the tests along its trail.
+// Prints the ends of the longest stretch, how many symbols are marked, how many tags have a part of that stretch, the sum of the numbers
+// of the tests along its trail, and the sum of the bytes that `mark` prints.
 fn print_answers(rt: &HostRuntime, case: &Case<'_>) -> anyhow::Result<()> {
     let shelf = shelf_of(case)?;
     let name = case.name;
@@ -36,7 +39,8 @@ fn print_answers(rt: &HostRuntime, case: &Case<'_>) -> anyhow::Result<()> {
             room.split(&shelf, 0, case, (left, right))?;
             let parts = room.parts();
             let sum = room.sum();
-            println!(rt; "{name} {left} {right} {marked} {parts} {sum}")?;
+            let printed = Orders::new(case).sum();
+            println!(rt; "{name} {left} {right} {marked} {parts} {sum} {printed}")?;
         }
         Err(Refusal::NoMatch) => println!(rt; "{name} none {marked}")?,
         Err(refusal) => return Err(refusal.into()),
@@ -44,40 +48,50 @@ fn print_answers(rt: &HostRuntime, case: &Case<'_>) -> anyhow::Result<()> {
     Ok(())
 }
 
-fn print_times(rt: &HostRuntime, case: &Case<'_>, runs: usize) -> anyhow::Result<()> {
+fn print_times(rt: &HostRuntime, case: &Case<'_>, least: u128) -> anyhow::Result<()> {
     let shelf = shelf_of(case)?;
     let name = case.name;
-    let longest = time(rt, runs, |place| {
+    let longest = time(rt, least, |place| {
         shelf.longest(place, case.line).map_or(0, |(_, end)| end)
     })?;
     let mut buffer = [0; SYMBOLS];
-    let marks = time(rt, runs, |place| {
+    let marks = time(rt, least, |place| {
         shelf.mark(place, case.line, &mut buffer).unwrap_or(0)
     })?;
     let ends = shelf.longest(0, case.line)?;
     let mut room = Room::new();
-    let splits = time(rt, runs, |place| {
+    let splits = time(rt, least, |place| {
         match room.split(&shelf, place, case, ends) {
             Ok(()) => room.number(),
             Err(_) => 0,
         }
     })?;
-    println!(rt; "{name} {longest} {marks} {splits}")?;
+    let mut orders = Orders::new(case);
+    let whole = time(rt, least, |place| orders.ask(place).len())?;
+    println!(rt; "{name} {longest} {marks} {splits} {whole}")?;
+    Ok(())
+}
+
+fn print(rt: &HostRuntime, cases: &[Case<'_>], least: Option<u128>) -> anyhow::Result<()> {
+    for case in cases {
+        match least {
+            Some(least) => print_times(rt, case, least)?,
+            None => print_answers(rt, case)?,
+        }
+    }
     Ok(())
 }
 
 fn run(rt: &HostRuntime) -> anyhow::Result<()> {
-    let runs = env::args(rt)?
+    let microseconds = env::args(rt)?
         .nth(1)
-        .map(|text| text.parse::<usize>())
+        .map(|text| text.parse::<u32>())
         .transpose()?;
-    for case in Texts::new().cases() {
-        match runs {
-            Some(runs) => print_times(rt, &case, runs)?,
-            None => print_answers(rt, &case)?,
-        }
-    }
-    Ok(())
+    let least = microseconds.map(|number| u128::from(number) * 1000);
+    let texts = Texts::new();
+    print(rt, &texts.cases(), least)?;
+    print(rt, &texts.longer_lines(), least)?;
+    print(rt, &texts.larger_patterns(), least)
 }
 
 fn main(rt: HostRuntime) -> anyhow::Result<()> {

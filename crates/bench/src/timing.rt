@@ -7,19 +7,18 @@ pub const PLACES: usize = 2;
 
 const ROUNDS: usize = 40;
 
-// The nanoseconds that one run takes, in the best of some rounds of so many runs. A run is a report on the line by the pattern at a
-// place, and answers a number from it (0 where it is refused), so that no run can be left out.
+// The nanoseconds that one run takes, in the best of some rounds. A round takes at least so many nanoseconds: one that is shorter does
+// not count, and the next has twice as many runs. A run is a report on the line by the pattern at a place, and answers a number from it
+// (0 where it is refused), so that no run can be left out.
 pub fn time<F: FnMut(usize) -> usize>(
     rt: &HostRuntime,
-    runs: usize,
+    least: u128,
     mut report: F,
 ) -> anyhow::Result<u128>
     requires { F.IsAlwaysCallable report }
 {
-    if runs == 0 {
-        return Err(anyhow!("no runs"));
-    }
     let answer = report(0);
+    let mut runs = 1usize;
     let mut best = u128::MAX;
     for _ in 0..ROUNDS {
         let mut sum = 0usize;
@@ -27,10 +26,15 @@ pub fn time<F: FnMut(usize) -> usize>(
         for run in 0..runs {
             sum = sum.wrapping_add(report(run % PLACES));
         }
-        best = best.min(start.elapsed(rt)?.as_nanos());
+        let taken = start.elapsed(rt)?.as_nanos();
         if sum != answer.wrapping_mul(runs) {
             return Err(anyhow!("the answers differ"));
         }
+        if taken < least {
+            runs = runs.saturating_mul(2);
+        } else {
+            best = best.min(taken / runs.max(1) as u128);
+        }
     }
-    Ok(best / runs as u128)
+    Ok(best)
 }

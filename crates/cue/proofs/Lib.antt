@@ -4,6 +4,7 @@ pub mod Laying
 mod Numbers
 mod Entries
 mod RoundTrip
+mod FirstFaults
 mod Filling
 mod Scans
 mod Writes

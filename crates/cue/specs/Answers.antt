@@ -46,6 +46,7 @@ filled (bad fault) ms entries = Err fault
 abbrev pub content_of : ℕ → List ℕ → Result (List ℕ × List (Option Part)) Fault
 content_of symbols bytes = filled (cues_of symbols bytes) (replicate symbols 0) (replicate 8 None)
 
+-- the same, the fault as a refusal
 abbrev pub no_record : Result (List ℕ × List (Option Part)) Fault → Result (List ℕ × List (Option Part)) Refusal
 no_record (Ok x) = Ok x
 no_record (Err fault) = Err (NoRecord fault)

@@ -7,6 +7,7 @@ use Rattle.cue.specs.declared.cursor.Cue.{Cue}
 use Rattle.cue.specs.declared.cursor.Cue.TheVariants.{Run, TagPart}
 use Rattle.cue.specs.Marks.{least_gap}
 
+-- runs and parts one after another, and then that the record is good, or its first fault
 pub data Cues : Type 0 where
   next : Cue → Cues → Cues
   good : Cues
@@ -27,6 +28,7 @@ abbrev pub in_limits : ℕ → ℕ → ℕ → Result (ℕ × ℕ × List ℕ) F
 in_limits least most at (Ok x) = cond (nat_le least x.0 && nat_le x.0 most) (Ok x) (Err (BrokenRule at))
 in_limits least most at (Err fault) = Err fault
 
+-- the number at the front of the bytes, which has to be from least to most
 abbrev pub number_within : ℕ → ℕ → ℕ → List ℕ → Result (ℕ × ℕ × List ℕ) Fault
 number_within least most at bytes = in_limits least most at (first_number at bytes)
 
@@ -35,9 +37,11 @@ abbrev pub after : Result (ℕ × ℕ × List ℕ) Fault → (ℕ → ℕ → Li
 after (Ok x) go_on = go_on x.0 x.1 x.2
 after (Err fault) go_on = bad fault
 
+-- the run from left up to right, whose first number stands at the offset
 abbrev pub run : ℕ → ℕ → ℕ → Cue
 run at left right = Run (record { offset = at; left = left; right = right })
 
+-- the part of a tag from left up to right, whose first number stands at the offset
 abbrev pub tag_part : ℕ → ℕ → ℕ → ℕ → Cue
 tag_part at tag left right = TagPart (record { offset = at; tag = tag; part = record { left = left; right = right } })
 

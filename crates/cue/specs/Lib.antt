@@ -5,4 +5,5 @@ pub mod Faults
 pub mod Cues
 pub mod Cursors
 pub mod Answers
+pub mod FirstFaults
 pub mod Contents

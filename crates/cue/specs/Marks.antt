@@ -17,6 +17,7 @@ runs_after gap (suc more) [] = (gap, suc more) ∷ []
 runs_after gap zero (m ∷ ms) = cond (m == 0) (runs_after (gap + 1) zero ms) (runs_after gap 1 ms)
 runs_after gap (suc more) (m ∷ ms) = cond (m == 0) ((gap, suc more) ∷ runs_after 1 zero ms) (runs_after gap (suc (suc more)) ms)
 
+-- the longest runs of some marks, first to last
 abbrev pub runs_of : List ℕ → List (ℕ × ℕ)
 runs_of ms = runs_after 0 0 ms
 

@@ -25,6 +25,7 @@ part_bytes (one ∷ parts) = leb128 one.0 ++ (leb128 one.1.left ++ (leb128 (one.
 abbrev pub counted : List (ℕ × ℕ) → List (ℕ × Part) → List ℕ
 counted runs parts = leb128 (length runs) ++ (run_bytes runs ++ (leb128 (length parts) ++ part_bytes parts))
 
+-- the record of some marks and the entries of a sheet
 abbrev pub record_of : List ℕ → List (Option Part) → List ℕ
 record_of marks entries = counted (runs_of marks) (parts_from 1 entries)
 

@@ -1,7 +1,8 @@
 // Reads a record into a buffer of marks and a sheet.
-ghost use Rattle.std.specs.Prelude.{◌≡◌, ◌≤◌, length, take, replicate, None, Ok, Err, MatchResult};
+ghost use Rattle.std.specs.Prelude.{◌≡◌, ◌≤◌, length, take, replicate, None, Ok, Err, IfErr, MatchResult};
 ghost use Rattle.cue.specs.Answers.{content_of, reading, ReadAfter, IsRecord, RoundTrip};
 ghost use Rattle.cue.specs.Contents.{Fits, With};
+ghost use Rattle.cue.specs.FirstFaults.{RefusedForFirst};
 
 use crate::MOST_SYMBOLS;
 use crate::cursor::{Cue, Cursor, MarkedRun};
@@ -63,6 +64,7 @@ pub fn read(
 ) -> Result<(), Refusal>
     ensures marks_and_parts_or_refusal { ReadAfter (reading symbols (length marks.old) bytes.now) symbols marks.old marks.new sheet.old sheet.new result }
     ensures exactly_the_records { MatchResult result (λ _. IsRecord symbols bytes.now) (λ _. symbols ≤ 160 → symbols ≤ length marks.old → IsRecord symbols bytes.now → ⊥) }
+    ensures refused_for_the_first_fault { IfErr result (λ refusal. RefusedForFirst symbols bytes.now refusal) }
     ensures round_trip { RoundTrip symbols bytes.now }
 {
     check_line(symbols, marks.len())?;

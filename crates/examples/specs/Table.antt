@@ -24,10 +24,12 @@ use Rattle.shelf.specs.Splits.{BestWord}
 pub data Written : Type 0 where
   letters words : Written
 
+-- what the notation reads
 abbrev pub reading : Written → Reading
 reading letters = letter_reading
 reading words = word_reading
 
+-- which symbols its tests admit
 abbrev pub meaning : Written → ℕ → ℕ → Bool
 meaning letters = letter_meaning
 meaning words = word_meaning
@@ -63,6 +65,7 @@ abbrev pub BestBy : RankedBy → (ℕ → ℕ → Bool) → Expr → List ℕ �
 BestBy extent admits e line l r word = BestWord no_extent extent_with ordered admits e line l r word
 BestBy tag_order admits e line l r word = BestWord no_lengths longer_by first_difference admits e line l r word
 
+-- the example comes out as it says
 abbrev pub AsListed : Example → Type 0
 AsListed (refused_pattern bytes fault) = syntax_of letter_reading bytes ≡ Err fault
 AsListed (longest_is w bytes line ends) = Lawful w bytes (λ admits e. Longest (Reads admits e line) ends)
@@ -76,6 +79,7 @@ AsListed (split_is ranking w bytes line ends word entries) =
 AsListed (number_is n bytes) = leb128 n ≡ bytes
 AsListed (record_is marks bytes) = record_of marks (replicate 8 None) ≡ bytes
 
+-- each of them does
 abbrev pub AllAsListed : List Example → Type 0
 AllAsListed [] = Unit {0}
 AllAsListed (x ∷ xs) = AsListed x × AllAsListed xs
@@ -84,6 +88,7 @@ AllAsListed (x ∷ xs) = AsListed x × AllAsListed xs
 abbrev pub part : ℕ → ℕ → Option Part
 part left right = Some (record { left = left; right = right })
 
+-- the table
 abbrev pub examples : List Example
 examples =
     refused_pattern (codes "") (MissingUnit 0)

@@ -221,8 +221,7 @@ fn rankings_differ(rt: HostRuntime) {
 
 // The trail of a whole line of two letters by extent, and the parts of the first two tags.
 fn split_two(pattern: &[u8], line: &[u8], trail: &mut [u8; 2]) -> (Option<Part>, Option<Part>) {
-    let mut shelf = Shelf::new(Letters::new());
-    let _ = shelf.file(0, pattern);
+    let shelf = shelf_with(pattern);
     let mut sheet = Sheet::new();
     let mut work = [0; 128];
     let _ = shelf.split(0, line, 0, 2, &Extent, trail, &mut sheet, &mut work);
@@ -268,6 +267,27 @@ fn a_stretch_inside_a_line(rt: HostRuntime) {
     );
 }
 
+// All calls that one line takes, one after another.
+#[test]
+fn from_a_pattern_to_a_record(rt: HostRuntime) {
+    let mut shelf = Shelf::new(Letters::new());
+    let line = b"hm ANNA: good evening";
+    assert_eq!(rt; shelf.file(3, b"{[A-Z]+}: {.*}"), Ok((4, 2)));
+    assert_eq!(rt; shelf.longest(3, line), Ok((3, 21)));
+    let (mut marks, mut trail) = ([0; 160], [0; 160]);
+    assert_eq!(rt; shelf.mark(3, line, &mut marks), Ok(18));
+    let (mut sheet, mut work) = (Sheet::new(), [0; 128]);
+    assert_eq!(rt;
+        shelf.split(3, line, 3, 21, &Extent, &mut trail, &mut sheet, &mut work),
+        Ok(())
+    );
+    assert_eq!(rt; part_of_line(&sheet, 1, line), Ok(Some(&b"ANNA"[..])));
+    let mut record = [0; 16];
+    assert_eq!(rt; cue::write(&marks, &sheet, line.len(), &mut record), Ok(10));
+    assert_eq!(rt; record, [1, 3, 18, 2, 1, 3, 4, 2, 9, 12, 0, 0, 0, 0, 0, 0]);
+    assert_eq!(rt; shelf.withdraw(3), Ok(()));
+}
+
 #[test]
 fn parts_that_misfit(rt: HostRuntime) {
     let mut sheet = Sheet::new();
@@ -279,13 +299,25 @@ fn parts_that_misfit(rt: HostRuntime) {
     assert_eq!(rt; part_of_line(&sheet, 6, b"abc"), Err(Refusal::EndsMisfit));
 }
 
+// A shelf with a pattern of letters at place 0.
+fn shelf_with(pattern: &[u8]) -> Shelf<Letters> {
+    let mut shelf = Shelf::new(Letters::new());
+    let _ = shelf.file(0, pattern);
+    shelf
+}
+
+// A sheet that no splitting leaves: the part of tag 8 is reversed.
+fn odd_sheet() -> Sheet {
+    let mut sheet = Sheet::new();
+    sheet.fill(8, part(5, 3));
+    sheet
+}
+
 // Each refusal comes before those that follow, and leaves trail and sheet as they were.
 #[test]
 fn splittings_turned_down(rt: HostRuntime) {
-    let mut shelf = Shelf::new(Letters::new());
-    assert_eq!(rt; shelf.file(0, b"{a}a"), Ok((2, 1)));
-    let mut sheet = Sheet::new();
-    sheet.fill(8, part(5, 3));
+    let shelf = shelf_with(b"{a}a");
+    let mut sheet = odd_sheet();
     let before = sheet;
     let mut trail = [9; 4];
     let long = &[b'b'; 161];
@@ -315,10 +347,8 @@ fn splittings_turned_down(rt: HostRuntime) {
 
 #[test]
 fn no_room_and_no_match(rt: HostRuntime) {
-    let mut shelf = Shelf::new(Letters::new());
-    assert_eq!(rt; shelf.file(0, b"{a}a"), Ok((2, 1)));
-    let mut sheet = Sheet::new();
-    sheet.fill(8, part(5, 3));
+    let shelf = shelf_with(b"{a}a");
+    let mut sheet = odd_sheet();
     let before = sheet;
     let mut trail = [9; 4];
     assert_eq!(rt;

@@ -43,8 +43,9 @@ MarkingOnly meaning register call after result =
     × (after ≡ record call { marks = record call.marks { now = marks } })
     × MarkingRight meaning register call.place call.line.now call.marks.now marks result
 
-module _ {S R M : Type 0} (start : R → M) (stepped : R → M → ℕ → M) (compared : R → M → M → Ordering) where
-  -- a splitting likewise; what it leaves in the buffer for its work is free
+-- the rankings of a list, each with measures of its own
+module _ {S R M : Type 0} {Measure : R → Type 0} (start : (r : R) → Measure r) (stepped : (r : R) → Measure r → ℕ → Measure r) (compared : (r : R) → Measure r → Measure r → Ordering) where
+  -- a splitting likewise, by the ranking that it names; what it leaves in the buffer for its work is free
   abbrev pub SplittingOnly : (ℕ → S → Bool) → Register → Splitting S R M → Splitting S R M → Result (Unit {0}) Refusal → Type 0
   SplittingOnly meaning register call after result =
       (trail : List ℕ) × (sheet : Sheet) × (work : List M)
@@ -76,10 +77,10 @@ module _ {S R M : Type 0} (start : R → M) (stepped : R → M → ℕ → M) (c
   -- From the shelf's making on every call has the answer that is right, at the front of the answers, and what stands behind is as it
   -- was; and the shelf is as these acts leave one. With fewer answers than calls none is made: calls and answers are as they were, and
   -- the shelf is as it is made.
-  abbrev pub RunBy : {N : Type 0} → (N → ℕ → S → Bool) → (N → Reading) → N → List (Call S R M) → List (Call S R M) → List Answer → List Answer → Shelf N S → Result (Unit {0}) Refusal → Type 0
-  RunBy meaning reading notation calls after before answers shelf (Ok _) =
+  abbrev pub RunRight : {N : Type 0} → (N → ℕ → S → Bool) → (N → Reading) → N → List (Call S R M) → List (Call S R M) → List Answer → List Answer → Shelf N S → Result (Unit {0}) Refusal → Type 0
+  RunRight meaning reading notation calls after before answers shelf (Ok _) =
       AllRight (meaning notation) (reading notation) [] calls after (take (length calls) answers)
       × (drop (length calls) answers ≡ drop (length calls) before)
       × AsLeftBy meaning reading notation (acts_after [] calls) shelf
-  RunBy meaning reading notation calls after before answers shelf (Err refusal) =
+  RunRight meaning reading notation calls after before answers shelf (Err refusal) =
       (refusal ≡ BufferTooShort) × (length before < length calls) × (after ≡ calls) × (answers ≡ before) × AsLeftBy meaning reading notation [] shelf

@@ -2,10 +2,12 @@
 #![tactic(auto)]
 
 ghost use Rattle.std.specs.Prelude.{◌≡◌, ℕ, List};
+ghost use Rattle.ranking.specs.OneOfTwo.{start_there, stepped_there, compared_there};
 ghost use Rattle.shelf.specs.Histories.{InEveryHistory};
-ghost use Rattle.histories.specs.Runs.{act, marking_act, splitting_act, MarkingOnly, SplittingOnly, Right, RunBy};
+ghost use Rattle.histories.specs.Runs.{act, marking_act, splitting_act, MarkingOnly, SplittingOnly, Right, RunRight};
 
 use alphabet::{Alphabet, Notation};
+use either::Either;
 use ranking::Ranking;
 use sheet::Sheet;
 use shelf::Shelf;
@@ -110,7 +112,7 @@ pub fn run<N: Notation, R: Ranking>(
     calls: &mut [Call<'_, N::Symbol, R, R::Measure>],
     answers: &mut [Answer],
 ) -> (Shelf<N>, Result<(), Refusal>)
-    ensures { RunBy R.Ranking.start R.Ranking.stepped R.Ranking.compared N.Alphabet.meaning N.Notation.reading notation calls.old calls.new answers.old answers.new result.0 result.1 }
+    ensures { RunRight R.Ranking.start R.Ranking.stepped R.Ranking.compared N.Alphabet.meaning N.Notation.reading notation calls.old calls.new answers.old answers.new result.0 result.1 }
 {
     let mut shelf = Shelf::new(notation);
     if answers.len() < calls.len() {
@@ -120,4 +122,16 @@ pub fn run<N: Notation, R: Ranking>(
         answers[i] = make(&mut shelf, call);
     }
     (shelf, Ok(()))
+}
+
+/// Makes a shelf and then calls on it, as `run` does. The splittings of the list may go by two rankings: each answers by the one that it
+/// names, as if it were alone.
+pub fn run_mixed<N: Notation, Q: Ranking, R: Ranking>(
+    notation: N,
+    calls: &mut [Call<'_, N::Symbol, Either<Q, R>, Either<Q::Measure, R::Measure>>],
+    answers: &mut [Answer],
+) -> (Shelf<N>, Result<(), Refusal>)
+    ensures { RunRight (start_there Q.Ranking.start R.Ranking.start) (stepped_there Q.Ranking.stepped R.Ranking.stepped) (compared_there Q.Ranking.compared R.Ranking.compared) N.Alphabet.meaning N.Notation.reading notation calls.old calls.new answers.old answers.new result.0 result.1 }
+{
+    run(notation, calls, answers)
 }

@@ -1,4 +1,4 @@
-use super::{Answer, Call, Marking, Splitting, run};
+use super::{Answer, Call, Marking, Splitting, run, run_mixed};
 use alphabet::Notation;
 use alphabet::letters::Letters;
 use alphabet::words::Words;
@@ -119,8 +119,10 @@ fn rankings_in_one_list(rt: HostRuntime) -> Result<(), AllocError> {
     calls.push(split_whole(&line, &extent, &mut by_extent, &mut sheet, &mut work))?;
     calls.push(split_whole(&line, &tag_order, &mut by_tag_order, &mut other, &mut more))?;
     let done = Answer::Split(Ok(()));
-    let expected = [Answer::Filed(Ok((6, 3))), done, done];
-    check(&rt, Letters::new(), &mut calls, &expected);
+    let mut answers = [done; 4];
+    let (_shelf, ran) = run_mixed(Letters::new(), &mut calls, &mut answers);
+    assert_eq!(rt; ran, Ok(()));
+    assert_eq!(rt; answers, [Answer::Filed(Ok((6, 3))), done, done, done]);
     drop(calls);
     assert_eq!(rt; by_extent, [4, 5, 6, 9]);
     assert_eq!(rt; by_tag_order, [1, 2, 3, 9]);

@@ -8,10 +8,9 @@ use Rattle.std.proofs.BufReadLemmas.{Consumes_shown}
 use Rattle.std.specs.declared.option.Option.{Option}
 use Rattle.std.specs.Io.{StartsWith}
 use Rattle.std.specs.Io.BufRead.{DropsConsumable}
-use Rattle.std.specs.Io.KnownBytes.{Keeps, Consumes, IsAtEnd}
+use Rattle.std.specs.Io.KnownBytes.{Keeps, Consumes, IsAtEnd, prepend_known}
 use Rattle.text.proofs.Takes.{take_twice}
 use Rattle.text.specs.Lines.{front, through, ends, CutsAnywhere}
-use Rattle.line_input.specs.Inputs.{TakesChunk}
 
 -- the bytes up to and with the first line feed, or all
 pub record Piece (s : List ℕ) : Type 0 where
@@ -53,33 +52,69 @@ ended_before (x ∷ a) b e = go (eqb x 10) refl e (ended_before a b)
     go true n _ below = (grind (arith, n), grind (arith, n))
     go false n e below = let w = below e in (grind (arith, n, w.0), grind (arith, n, w.1))
 
--- a chunk that was shown and consumed up to its line feed
-pub takes : (most : ℕ) (a b c : Option (List ℕ)) (limit : Option ℕ) (shown before after : List ℕ) (n : ℕ) (ended : Bool)
-    → IfSome a (λ xs. StartsWith xs shown) → IfSome a (λ xs. length shown ≡ 0 → xs ≡ []) → Keeps a b
-    → IfSome a (λ _. IfSome limit (λ k. length shown ≤ k)) → DropsConsumable b c limit n
-    → n ≡ through shown → ended ≡ ends shown → after ≡ take most (before ++ front shown) → TakesChunk most a c before after n ended
-takes most a b c limit shown before after n ended first none kept fits drops count last holds =
+-- A chunk of n bytes, which ends with the line's line feed if `ended` says so and has none else, was the first of the
+-- input, and is gone from it; its front is held besides what was held. Only at the input's end has it no bytes.
+abbrev pub TakesChunk : ℕ → Option (List ℕ) → Option (List ℕ) → List ℕ → List ℕ → ℕ → Bool → Type 0
+TakesChunk most old new before after n ended =
+    (chunk : List ℕ) × (length chunk ≡ n) × (ends chunk ≡ ended) × (through chunk ≡ n)
+    × (after ≡ take most (before ++ front chunk)) × Consumes old new chunk × (n ≡ 0 → IsAtEnd old)
+
+-- what a reader holds is the first of what it has left
+pub held_first : (unknown : Bool) (bs : List ℕ) (rest : Option (List ℕ)) → IfSome (cond unknown None (prepend_known bs rest)) (λ xs. StartsWith xs bs)
+held_first true bs rest = tt
+held_first false bs None = tt
+held_first false bs (Some xs) = take-append_seam bs xs
+
+-- and so it is of what it had left before, of which nothing is lost
+first_kept : (a b : Option (List ℕ)) (bs : List ℕ) → Keeps a b → IfSome b (λ xs. StartsWith xs bs) → IfSome a (λ xs. StartsWith xs bs)
+first_kept None b bs kept h = tt
+first_kept (Some x) None bs kept h = absurd kept
+first_kept (Some x) (Some y) bs kept h = subst (λ l. StartsWith l bs) kept h
+
+none_held : (a : Option (List ℕ)) (bs : List ℕ) → (bs ≡ [] → IsAtEnd a) → IfSome a (λ xs. length bs ≡ 0 → xs ≡ [])
+none_held None bs end = tt
+none_held (Some x) [] end = λ _. end refl
+none_held (Some x) (b ∷ bs) end = λ none. absurd (omega (arith, none))
+
+all_held : (a : Option (List ℕ)) (n : ℕ) → IfSome a (λ _. n ≤ n)
+all_held None n = tt
+all_held (Some x) n = omega arith
+
+no_through : (s : List ℕ) (t : Bool) → ends s ≡ t → through s ≡ 0 → s ≡ []
+no_through [] t e z = refl
+no_through (b ∷ s) true e z = absurd (omega (arith, z, ap (λ t. cond t (length (front (b ∷ s)) + 1) (length (b ∷ s))) e))
+no_through (b ∷ s) false e z = absurd (omega (arith, z, ap (λ t. cond t (length (front (b ∷ s)) + 1) (length (b ∷ s))) e))
+
+-- no bytes are taken only where none are held
+pub none_taken : (s : List ℕ) → through s ≡ 0 → s ≡ []
+none_taken s z = no_through s (ends s) refl z
+
+-- where no line ends, all is taken
+pub all_taken : (s : List ℕ) → ends s ≡ false → drop (through s) s ≡ []
+all_taken s e = ap (λ t. drop (cond t (length (front s) + 1) (length s)) s) e ∙ drop-length s
+
+-- a line that is held is some bytes
+pub line_held : (s : List ℕ) → ends s ≡ true → nat_lt 0 (length s) ≡ true
+line_held [] e = absurd (true≢false (sym e))
+line_held (b ∷ s) e = lt-ltb 0 (length (b ∷ s)) (omega arith)
+
+-- input that is held, of which what stands up to its line feed is taken
+pub takes : (most : ℕ) (a b c : Option (List ℕ)) (shown before after : List ℕ)
+    → IfSome b (λ xs. StartsWith xs shown) → (shown ≡ [] → IsAtEnd a) → Keeps a b → DropsConsumable b c (Some (length shown)) (through shown)
+    → after ≡ take most (before ++ front shown) → TakesChunk most a c before after (through shown) (ends shown)
+takes most a b c shown before after first end kept drops holds =
     let p = piece shown in
-    let long : length p.part ≡ n = p.long ∙ sym count in
-    let within : n ≤ length shown = omega (arith, long, ap length p.split, length-append p.part p.rest) in
-    let cut : take n shown ≡ p.part = ap (take n) p.split ∙ ap (λ k. take k (p.part ++ p.rest)) (sym long) ∙ take-append_seam p.part p.rest in
-    let moved = Consumes_shown a b c limit shown n within first none kept fits drops in (
+    let within : through shown ≤ length shown = omega (arith, p.long, ap length p.split, length-append p.part p.rest) in
+    let cut : take (through shown) shown ≡ p.part = ap (take (through shown)) p.split ∙ ap (λ k. take k (p.part ++ p.rest)) (sym p.long) ∙ take-append_seam p.part p.rest in
+    let moved = Consumes_shown a b c (Some (length shown)) shown (through shown) within (first_kept a b shown kept first) (none_held a shown end) kept (all_held a (length shown)) drops in (
       p.part,
-      long,
-      p.ended ∙ sym last,
-      p.all ∙ long,
+      p.long,
+      p.ended,
+      p.all ∙ p.long,
       holds ∙ ap (λ l. take most (before ++ l)) (sym p.same),
       subst (Consumes a c) cut moved.0,
-      λ zero. at_end a none (no_through shown (ends shown) refl (sym count ∙ zero)),
+      λ zero. end (none_taken shown zero),
     )
-  where
-    no_through : (s : List ℕ) (t : Bool) → ends s ≡ t → through s ≡ 0 → length s ≡ 0
-    no_through s true e z = absurd (omega (arith, z, ap (λ b. cond b (length (front s) + 1) (length s)) e))
-    no_through s false e z = sym (ap (λ b. cond b (length (front s) + 1) (length s)) e) ∙ z
-
-    at_end : (o : Option (List ℕ)) → IfSome o (λ xs. length shown ≡ 0 → xs ≡ []) → length shown ≡ 0 → IsAtEnd o
-    at_end None h z = tt
-    at_end (Some xs) h z = h z
 
 -- what a line that was read is to the input before
 abbrev pub Reads : ℕ → Option (List ℕ) → Option (List ℕ) → List ℕ → Bool → Type 0

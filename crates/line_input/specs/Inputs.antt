@@ -1,12 +1,13 @@
--- What reading a chunk does to an input and to what is held of its line.
-use Rattle.std.specs.Prelude.{◌≡◌, ℕ, Bool, List, ◌++◌, length, take}
-use Rattle.std.specs.declared.option.Option.{Option}
-use Rattle.std.specs.Io.KnownBytes.{Consumes, IsAtEnd}
-use Rattle.text.specs.Lines.{front, through, ends}
+-- What reading does to an input, to an output, and to what is held of a line.
+use Rattle.std.specs.Prelude.{◌≡◌, ℕ, Bool, true, List, take, drop, Ok, Err, Result}
+use Rattle.text.specs.Lines.{front, through}
 
--- A chunk of n bytes, which ends with the line's line feed if `ended` says so and has none else, was the first of the
--- input, and is gone from it; its front is held besides what was held. Only at the input's end has it no bytes.
-abbrev pub TakesChunk : ℕ → Option (List ℕ) → Option (List ℕ) → List ℕ → List ℕ → ℕ → Bool → Type 0
-TakesChunk most old new before after n ended =
-    (chunk : List ℕ) × (length chunk ≡ n) × (ends chunk ≡ ended) × (through chunk ≡ n)
-    × (after ≡ take most (before ++ front chunk)) × Consumes old new chunk × (n ≡ 0 → IsAtEnd old)
+-- an input and an output are left as they were, without an error
+abbrev pub LeavesBoth : {I O V E : Type 0} → I → I → O → O → Result V E → Type 0
+LeavesBoth before after was is (Ok done) = (after ≡ before) × (is ≡ was)
+LeavesBoth before after was is (Err e) = ⊥
+
+-- the first line of the bytes before is read, without an error, and with its line feed it alone is gone from them
+abbrev pub ReadsFirst : {E : Type 0} → ℕ → List ℕ → List ℕ → List ℕ → Result Bool E → Type 0
+ReadsFirst most before after line (Ok there) = (there ≡ true) × (line ≡ take most (front before)) × (after ≡ drop (through before) before)
+ReadsFirst most before after line (Err e) = ⊥

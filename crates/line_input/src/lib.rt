@@ -1,11 +1,12 @@
-// Lines of an input, one after another.
+//! Lines of an input, one after another.
 #![tactic(auto)]
 
-ghost use Rattle.std.specs.Prelude.{◌≡◌, false, nat_lt, length, [], take, drop, Some, IfSome, IfOk, OnOk};
-ghost use Rattle.std.specs.Io.Buffered.{reader_buffer, reader_remaining, writer_buffer, writer_contents};
-ghost use Rattle.std.specs.Io.KnownBytes.{Keeps};
-ghost use Rattle.text.specs.Lines.{held, front, through, CutsAnywhere};
-ghost use Rattle.line_input.specs.Inputs.{TakesChunk};
+ghost use Rattle.std.specs.Prelude.{◌≡◌, ◌⊎◌, true, false, nat_lt, length, [], ◌++◌, take, drop, Some, IfSome, IfOk, OnOk};
+ghost use Rattle.std.specs.Io.Buffered.{reader_buffer, reader_inner, reader_remaining, writer_buffer, writer_contents};
+ghost use Rattle.std.specs.Io.BufRead.{DropsConsumable};
+ghost use Rattle.std.specs.Io.KnownBytes.{Keeps, IsAtEnd};
+ghost use Rattle.text.specs.Lines.{held, front, through, ends, CutsAnywhere};
+ghost use Rattle.line_input.specs.Inputs.{LeavesBoth, ReadsFirst};
 
 use std::io;
 use std::io::{BufRead, BufReader, BufWriter, Error, ErrorKind, Read, Write};
@@ -14,9 +15,10 @@ use text::line::LineBuffer;
 #[cfg(test)]
 mod tests;
 
-// Reads the front of the next line, as many of its bytes as the line buffer holds, and says whether there is a line. A last line may lack
-// its line feed. Before input is waited for, the output is written out, so that what was asked last is answered.
-// `kept`, `there` and `rest` speak of a reader that tells its contract which bytes it has left; the body can't know which do.
+/// Reads the front of the next line, as many of its bytes as the line buffer holds, and says whether there is a line. A last line may lack
+/// its line feed. Before input is waited for, the output is written out, so that what was asked last is answered.
+/// `kept`, `there` and `rest` speak of a reader that tells its contract which bytes it has left; the body can't know which do. The other clauses
+/// speak of any.
 pub fn read_line<const MOST: usize, R: Read, W: Write + Drop>(
     input: &mut BufReader<R>,
     output: &mut BufWriter<W>,
@@ -27,17 +29,17 @@ pub fn read_line<const MOST: usize, R: Read, W: Write + Drop>(
     ensures rest { OnOk result (IfSome (reader_remaining R.remaining input.old) (λ xs.
         reader_remaining R.remaining input.new ≡ Some (drop (through xs) xs))) }
     ensures none { IfOk result (λ there. there ≡ false → held line.new ≡ []) }
-    ensures flushed { reader_buffer input.old ≡ [] → OnOk result (writer_buffer output.new ≡ []) }
+    ensures at_hand { ends (reader_buffer input.old) ≡ true → ReadsFirst MOST (reader_buffer input.old) (reader_buffer input.new) (held line.new) result }
+    ensures unwritten { ends (reader_buffer input.old) ≡ true → output.new ≡ output.old }
+    ensures flushed { ends (reader_buffer input.old) ≡ false → OnOk result (writer_buffer output.new ≡ []) }
     ensures written { Keeps (writer_contents W.contents output.old) (writer_contents W.contents output.new) }
 {
     line.clear();
     let mut there = false;
     // A loop has to be shown to end, so this one has a bound, which no input reaches: past it there is an error.
     for _ in 0..u64::MAX {
-        if input.buffer().is_empty() {
-            output.flush()?;
-        }
-        let (n, ended) = take_chunk(input, line)?;
+        wait_for_input(input, output)?;
+        let (n, ended) = take_chunk(input, line);
         if ended {
             return Ok(true);
         }
@@ -49,21 +51,44 @@ pub fn read_line<const MOST: usize, R: Read, W: Write + Drop>(
     Err(Error::from(ErrorKind::TimedOut))
 }
 
-// Takes the next chunk of the input, up to its first line feed. Answers how many bytes those are, none only at the end, and whether the
-// line ended.
+// Where no input is held, writes out the output and waits for more. None is held afterwards only at the input's end. The reader is asked last:
+// either it is as it was, or the output is written out, also where there is an error.
+fn wait_for_input<R: Read, W: Write + Drop>(
+    input: &mut BufReader<R>,
+    output: &mut BufWriter<W>,
+) -> io::Result<()>
+    ensures held { nat_lt 0 (length (reader_buffer input.old)) ≡ true → LeavesBoth input.old input.new output.old output.new result }
+    ensures kept { OnOk result (Keeps (reader_remaining R.remaining input.old) (reader_remaining R.remaining input.new)) }
+    ensures end { OnOk result (reader_buffer input.new ≡ [] → IsAtEnd (reader_remaining R.remaining input.old)) }
+    ensures flushed { reader_buffer input.old ≡ [] → OnOk result (writer_buffer output.new ≡ []) }
+    ensures asked_last { (reader_inner input.new ≡ reader_inner input.old) ⊎ (writer_buffer output.new ≡ []) }
+    ensures written { Keeps (writer_contents W.contents output.old) (writer_contents W.contents output.new) }
+{
+    if input.buffer().is_empty() {
+        output.flush()?;
+        input.fill_buf()?;
+    }
+    Ok(())
+}
+
+// Takes the input that is held, up to its first line feed. Answers how many bytes those are, and whether the line ended.
 fn take_chunk<const MOST: usize, R: Read>(
     input: &mut BufReader<R>,
     line: &mut LineBuffer<MOST>,
-) -> io::Result<(usize, bool)>
-    ensures takes { IfOk result (λ r. TakesChunk MOST (reader_remaining R.remaining input.old) (reader_remaining R.remaining input.new)
-        (held line.old) (held line.new) r.0 r.1) }
-    ensures cuts { OnOk result (CutsAnywhere MOST) }
+) -> (usize, bool)
+    ensures count { result.0 ≡ through (reader_buffer input.old) }
+    ensures ended { result.1 ≡ ends (reader_buffer input.old) }
+    ensures held { held line.new ≡ take MOST (held line.old ++ front (reader_buffer input.old)) }
+    ensures buffer { reader_buffer input.new ≡ drop (through (reader_buffer input.old)) (reader_buffer input.old) }
+    ensures rest { DropsConsumable (reader_remaining R.remaining input.old) (reader_remaining R.remaining input.new)
+        (Some (length (reader_buffer input.old))) (through (reader_buffer input.old)) }
+    ensures cuts { CutsAnywhere MOST }
 {
-    let chunk = input.fill_buf()?;
+    let chunk = input.buffer();
     let (n, ended) = match line.take_in(chunk) {
         Some(n) => (n, true),
         None => (chunk.len(), false),
     };
     input.consume(n);
-    Ok((n, ended))
+    (n, ended)
 }

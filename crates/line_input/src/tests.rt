@@ -2,21 +2,25 @@
 use crate::read_line;
 use std::alloc::Global;
 use std::io;
-use std::io::{BufReader, BufWriter, Read, Write};
+use std::io::{BufReader, BufWriter, Error, ErrorKind, Read, Write};
 use std::test::Fail;
 use text::line::LineBuffer;
 
-// An input that gives at most so many bytes at a time, and counts how often it was asked.
+// An input that gives at most so many bytes at a time, and counts how often it was asked. A broken one fails at its end.
 #[derive(Drop)]
 struct Pieces<'a> {
     left: &'a [u8],
     most: usize,
     asked: u64,
+    broken: bool,
 }
 
 impl Read for Pieces<'_> {
     fn read(&mut self, buf: &mut [u8]) -> io::Result<usize> {
         self.asked = self.asked.wrapping_add(1);
+        if self.broken && self.left.is_empty() {
+            return Err(Error::from(ErrorKind::UnexpectedEof));
+        }
         let n = self.left.len().min(self.most).min(buf.len());
         buf[..n].copy_from_slice(&self.left[..n]);
         self.left = &self.left[n..];
@@ -47,6 +51,7 @@ fn has_lines(alloc: Global, whole: &[u8], most: usize, lines: &[&[u8]]) -> io::R
         left: whole,
         most,
         asked: 0,
+        broken: false,
     };
     let mut input = BufReader::new(alloc, pieces)?;
     let mut output = BufWriter::new(alloc, Counter { flushes: 0 })?;
@@ -91,5 +96,27 @@ fn long_line(rt: HostRuntime) -> Result<(), Fail> {
     let mut whole = [b'a'; 9000];
     whole[8900] = b'\n';
     assert!(rt; always_has_lines(alloc, &whole, &[&[b'a'; 201], &[b'a'; 99]])?);
+    Ok(())
+}
+
+// A line that came whole is read; of the next, the answer is the input's own error.
+#[test]
+fn broken_input(rt: HostRuntime) -> Result<(), Fail> {
+    let alloc = rt.alloc();
+    let pieces = Pieces {
+        left: b"ab\ncd",
+        most: 8192,
+        asked: 0,
+        broken: true,
+    };
+    let mut input = BufReader::new(alloc, pieces)?;
+    let mut output = BufWriter::new(alloc, Counter { flushes: 0 })?;
+    let mut line: LineBuffer<201> = LineBuffer::new();
+    assert!(rt; read_line(&mut input, &mut output, &mut line)?);
+    assert!(rt; line.bytes() == b"ab".as_slice());
+    match read_line(&mut input, &mut output, &mut line) {
+        Ok(_) => assert!(rt; false),
+        Err(error) => assert!(rt; error.kind() == ErrorKind::UnexpectedEof),
+    }
     Ok(())
 }

@@ -3,13 +3,11 @@
 
 use line_input::read_line;
 use marking::marker::Marker;
+use orders::order::FRONT;
 use std::io;
 use std::io::{BufReader, BufWriter, Write};
 use text::buffer::Text;
 use text::line::LineBuffer;
-
-// An order has at most 200 bytes, so one byte more tells that a line is none.
-const FRONT: usize = 201;
 
 fn main(rt: HostRuntime) -> io::Result<()> {
     let mut input = BufReader::new(rt.alloc(), rt.stdin())?;

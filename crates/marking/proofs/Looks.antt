@@ -16,7 +16,7 @@ use Rattle.shelf.specs.Reports.{for_line, asked, LongestBy, with_room, MarksBy}
 use Rattle.shelf.specs.Splits.{for_split, SplitBy}
 use Rattle.marking.proofs.TagCounts.{tags_kept}
 use Rattle.marking.specs.Tags.{tags_at}
-use Rattle.marking.specs.Answers.{ReadsBy, Found, Looked}
+use Rattle.marking.specs.Answers.{ReadsBy, Found}
 
 -- the line is short enough for the pattern
 short_line : (s : Result Syntax Refusal) (symbols : ℕ) (x : Syntax) → for_line s symbols ≡ Ok x → (s ≡ Ok x) × (symbols ≤ 160)
@@ -64,17 +64,17 @@ split_fits x line ends trail trail_new measures was is answer h k long s =
     subst (λ p. Splits p line ends.0 ends.1 trail trail_new was is answer) (ends_fit x (length line) ends.0 ends.1 (length trail) measures ordered within (omega arith) k) s
 
 module _ (places : List (Option Pattern)) (place : ℕ) (line : List ℕ) (ends : ℕ × ℕ) where
-  -- what is found of the line
+  -- what is found of the line, and the pattern by which it is found
   pub looked : (before after : List ℕ) (count : ℕ) (trail trail_new : List ℕ) (measures : ℕ) (was now : List (Option Part)) → length before ≡ 160 → length trail ≡ 160 → 128 ≤ measures
       → LongestBy letter_meaning (asked places place (length line)) line (Ok ends)
       → MarksBy letter_meaning (with_room (asked places place (length line)) (length line) (length before)) line before after (Ok count)
       → Splits (for_split (asked places place (length line)) (length line) ends.0 ends.1 (length trail) measures) line ends.0 ends.1 trail trail_new was now (Ok tt)
-      → Looked (asked places place (length line)) line after now (Ok ends) × (place < 10) × (length line ≤ 160)
+      → (x : Syntax) × (asked places place (length line) ≡ Ok x) × Found x line ends (take (length line) after) now
   looked before after count trail trail_new measures was now room trail_room k long m s = go (asked places place (length line)) refl long m s
     where
       go : (r : Result Syntax Refusal) → asked places place (length line) ≡ r → LongestBy letter_meaning r line (Ok ends) → MarksBy letter_meaning (with_room r (length line) (length before)) line before after (Ok count)
           → Splits (for_split r (length line) ends.0 ends.1 (length trail) measures) line ends.0 ends.1 trail trail_new was now (Ok tt)
-          → Looked r line after now (Ok ends) × (place < 10) × (length line ≤ 160)
+          → (x : Syntax) × (r ≡ Ok x) × Found x line ends (take (length line) after) now
       go (Err f) is long m s = cc
       go (Ok x) is long m s =
           let by = asked_of places place (length line) x is in
@@ -82,6 +82,8 @@ module _ (places : List (Option Pattern)) (place : ℕ) (line : List ℕ) (ends 
           let marks = marks_fit x line before after (Ok count) (omega arith) m in
           let kept : length after ≡ length before = marks.kept in
           let splitting = split_fits x line ends trail trail_new measures was now (Ok tt) (omega arith) k long s in (
+            x,
+            refl,
             record {
               longest = long;
               one_each = length-take-le (length line) after (omega arith);
@@ -90,15 +92,8 @@ module _ (places : List (Option Pattern)) (place : ℕ) (line : List ℕ) (ends 
               best = splitting.best;
               parts = splitting.parts;
             },
-            (place_of_ten places place x by.0).0,
-            few,
           )
 
--- the pattern by which something is found, and what is kept of its tags
-pub found_by : (places : List (Option Pattern)) (place : ℕ) (line marks : List ℕ) (entries : List (Option Part)) (ends : ℕ × ℕ) (kept : List ℕ) → kept ≡ map tags_at places → Looked (asked places place (length line)) line marks entries (Ok ends)
-    → (x : Syntax) × (asked places place (length line) ≡ Ok x) × Found x line ends (take (length line) marks) entries × (get_or kept place 0 ≡ x.tags)
-found_by places place line marks entries ends kept e a = go (asked places place (length line)) refl a
-  where
-    go : (r : Result Syntax Refusal) → asked places place (length line) ≡ r → Looked r line marks entries (Ok ends) → (x : Syntax) × (asked places place (length line) ≡ Ok x) × Found x line ends (take (length line) marks) entries × (get_or kept place 0 ≡ x.tags)
-    go (Err f) is a = cc
-    go (Ok x) is a = (x, is, a, tags_kept places place kept x e (place_of_ten places place x (asked_of places place (length line) x is).0).1)
+-- what is kept of the tags of the pattern by which a line is asked
+pub tags_of_asked : (places : List (Option Pattern)) (place symbols : ℕ) (kept : List ℕ) (x : Syntax) → kept ≡ map tags_at places → asked places place symbols ≡ Ok x → get_or kept place 0 ≡ x.tags
+tags_of_asked places place symbols kept x e is = tags_kept places place kept x e (place_of_ten places place x (asked_of places place symbols x is).0).1

@@ -1,5 +1,5 @@
 -- What is printed for an order, and what the places hold afterwards.
-use Rattle.std.specs.Prelude.{◌≡◌, ℕ, ◌<◌, cond, ◌⊎◌, List, ◌++◌, length, take, is_ok, None, Ok, Err, Option, Result, slice_index, slice_set}
+use Rattle.std.specs.Prelude.{◌≡◌, ℕ, ◌<◌, cond, ◌⊎◌, List, ◌++◌, length, is_ok, None, Ok, Err, Option, Result, slice_index, slice_set}
 use Rattle.alphabet.specs.Letters.{letter_meaning, letter_reading}
 use Rattle.automaton.specs.Stretches.{Longest, NoneReads, MarkedRight}
 use Rattle.orders.specs.Orders.{Wanted, to_file, to_withdraw, to_ask, IsOrder, NoOrder}
@@ -80,9 +80,3 @@ Outcome (to_ask place line) was is text = Reported (asked was place (length line
 pub record Answered (bytes : List ℕ) (was is : List (Option Pattern)) (text : List ℕ) : Type 0 where
   pub order : (w : Wanted) → IsOrder w bytes → Outcome w was is text
   pub no_order : NoOrder bytes → (text ≡ unknown_text) × (is ≡ was)
-
--- what looking at a line answers, with marks and entries
-abbrev pub Looked : Result Syntax Refusal → List ℕ → List ℕ → List (Option Part) → Result (ℕ × ℕ) Refusal → Type 0
-Looked (Err refusal) line marks entries answer = answer ≡ Err refusal
-Looked (Ok x) line marks entries (Ok ends) = Found x line ends (take (length line) marks) entries
-Looked (Ok x) line marks entries (Err refusal) = (refusal ≡ NoMatch) × NoneReads (ReadsBy x line)

@@ -16,6 +16,7 @@ use shelf::{PLACES, Shelf};
 use splitting::MEASURES;
 use text::buffer::Text;
 
+/// A shelf of letters, and of the pattern at each place the number of tags.
 #[derive(Drop)]
 pub struct Marker {
     shelf: Shelf<Letters>,
@@ -25,14 +26,15 @@ pub struct Marker {
 }
 
 impl Marker {
-    ghost use Rattle.std.specs.Prelude.{ℕ, ◌<◌, ◌≤◌, List, length, replicate, None, OnOk};
-    ghost use Rattle.alphabet.specs.Letters.{letter_reading};
-    ghost use Rattle.marking.specs.Answers.{filing_text, withdrawing_text, bared, Looked, Reported, Answered};
+    ghost use Rattle.std.specs.Prelude.{ℕ, ◌<◌, ◌≤◌, List, length, replicate, take, None, Ok, IfOk, OnOk};
+    ghost use Rattle.alphabet.specs.Letters.{letter_meaning, letter_reading};
+    ghost use Rattle.marking.specs.Answers.{filing_text, withdrawing_text, bared, Found, Reported, Answered};
+    ghost use Rattle.pattern.specs.Expressions.{Syntax};
     ghost use Rattle.shelf.specs.Filing.{filing, counts, FiledAfter, withdrawing};
-    ghost use Rattle.shelf.specs.Reports.{asked};
+    ghost use Rattle.shelf.specs.Reports.{asked, LongestBy};
     ghost use Rattle.text.specs.Texts.{written, Adds};
 
-    // A marker on whose shelf nothing stands.
+    /// A marker on whose shelf nothing stands.
     pub fn new() -> Marker
         ensures { result.shelf.places ≡ replicate 10 None }
     {
@@ -78,7 +80,8 @@ impl Marker {
         marks: &mut [u8; MOST_SYMBOLS],
         sheet: &mut Sheet,
     ) -> Result<(usize, usize), Refusal>
-        ensures looked { Looked (asked self.now.shelf.places place (length line.now)) line.now marks.new sheet.new.entries result }
+        ensures longest_or_refusal { LongestBy letter_meaning (asked self.now.shelf.places place (length line.now)) line.now result }
+        ensures found { IfOk result (λ ends. (x : Syntax) × (asked self.now.shelf.places place (length line.now) ≡ Ok x) × Found x line.now ends (take (length line.now) marks.new) sheet.new.entries) }
         ensures one_of_ten { OnOk result (place < 10) }
         ensures short { OnOk result (length line.now ≤ 160) }
     {
@@ -108,7 +111,7 @@ impl Marker {
         }
     }
 
-    // Does what the order says, if the bytes are one, and writes what is printed for it.
+    /// Does what the order says, if the bytes are one, and writes what is printed for it.
     pub fn answer(&mut self, bytes: &[u8], out: &mut Text)
         ensures { Answered bytes.now self.old.shelf.places self.new.shelf.places (written out.new) }
     {

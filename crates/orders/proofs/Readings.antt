@@ -1,6 +1,7 @@
--- The same bytes are an order for one thing only.
-use Rattle.std.proofs.Common.{◌≡◌, ℕ, ◌+◌, List, sym, ◌∙◌, arith}
-use Rattle.orders.specs.Orders.{Wanted, to_file, to_withdraw, to_ask, order_text, OneOrder}
+-- The same bytes are an order for one thing only, and the first of a line tell which.
+use Rattle.std.proofs.Common.{◌≡◌, ℕ, ◌+◌, List, length, take, take_all, length-take, sym, ◌∙◌, subst, inl, inr, arith}
+use Rattle.std.proofs.lemmas.Bool.{cases_lt}
+use Rattle.orders.specs.Orders.{Wanted, to_file, to_withdraw, to_ask, order_text, IsOrder, OneOrder, FrontSuffices}
 
 same_place : (k j : ℕ) → 48 + k ≡ 48 + j → k ≡ j
 same_place k j e = omega arith
@@ -18,3 +19,11 @@ same_text (to_ask k p) (to_ask j q) e = let n : 48 + k ≡ 48 + j = cc in let m 
 
 pub one_order : (bytes : List ℕ) → OneOrder bytes
 one_order bytes v w p q = same_text v w (sym p.text ∙ q.text)
+
+pub front_suffices : (line : List ℕ) → FrontSuffices line
+front_suffices line w = elim (cases_lt (length line) 201) [
+  | inl h ↦
+      (let whole : take 201 line ≡ line = take_all 201 line (omega arith) in
+      (λ is. subst (IsOrder w) (sym whole) is, λ is. subst (IsOrder w) whole is))
+  | inr h ↦ (λ is. absurd (omega (arith, is.few)), λ is. absurd (omega (arith, is.few, length-take 201 line)))
+]

@@ -1,7 +1,8 @@
 -- What an order asks for, and how it is written.
-use Rattle.std.specs.Prelude.{◌≡◌, ℕ, ◌+◌, ◌<◌, ◌≤◌, List, [], ◌∷◌, ◌++◌, length, codes}
+use Rattle.std.specs.Prelude.{◌≡◌, ℕ, ◌+◌, ◌<◌, ◌≤◌, List, [], ◌∷◌, ◌++◌, length, take, codes}
 use Rattle.orders.specs.declared.order.Order.{Order}
 use Rattle.orders.specs.declared.order.Order.TheVariants.{File, Withdraw, Ask}
+use Rattle.orders.specs.declared.order.TheConstants.{FRONT}
 
 -- that a pattern is filed at a place, that what stands at a place is withdrawn, or what the pattern at a place reads of a line
 pub data Wanted : Type 0 where
@@ -40,3 +41,7 @@ NoOrder bytes = (w : Wanted) → IsOrder w bytes → ⊥
 -- the same bytes are an order for one thing only
 abbrev pub OneOrder : List ℕ → Type 0
 OneOrder bytes = (v w : Wanted) → IsOrder v bytes → IsOrder w bytes → v ≡ w
+
+-- The first bytes of a line, as many as `FRONT`, are an order for what the whole line is one for, and for nothing else.
+abbrev pub FrontSuffices : List ℕ → Type 0
+FrontSuffices line = (w : Wanted) → (IsOrder w line → IsOrder w (take FRONT line)) × (IsOrder w (take FRONT line) → IsOrder w line)

@@ -12,9 +12,13 @@ refused_text refusal = refusal_text refusal ++ codes "\n"
 abbrev pub unknown_text : List ℕ
 unknown_text = codes "refused 19\n"
 
+-- a label and two numbers, on a line of their own
+abbrev pub pair_text : List ℕ → ℕ → ℕ → List ℕ
+pair_text label first second = label ++ (codes " " ++ (decimal first ++ (codes " " ++ (decimal second ++ codes "\n"))))
+
 -- the line where a pattern is filed: the numbers of its tests and tags
 abbrev pub filed_text : ℕ → ℕ → List ℕ
-filed_text tests tags = codes "ok " ++ (decimal tests ++ (codes " " ++ (decimal tags ++ codes "\n")))
+filed_text tests tags = pair_text (codes "ok") tests tags
 
 -- the line where a pattern is withdrawn
 abbrev pub withdrawn_text : List ℕ
@@ -22,7 +26,7 @@ withdrawn_text = codes "ok\n"
 
 -- the line with the two ends of the longest stretch
 abbrev pub longest_text : ℕ → ℕ → List ℕ
-longest_text left right = codes "longest " ++ (decimal left ++ (codes " " ++ (decimal right ++ codes "\n")))
+longest_text left right = pair_text (codes "longest") left right
 
 -- a full stop for the mark 0, and a hash for any other
 abbrev pub shown_mark : ℕ → ℕ

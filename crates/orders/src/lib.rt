@@ -1,4 +1,4 @@
-// Orders to a shelf of letters, as they are written, and what is printed in answer.
+//! Orders to a shelf of letters, as they are written, and what is printed in answer.
 #![tactic(auto, using(text::proofs::Chains::nothing))]
 
 pub mod order;

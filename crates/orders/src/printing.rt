@@ -1,5 +1,5 @@
 // What is printed in answer to an order, line by line.
-ghost use Rattle.orders.specs.Printing.{filed_text, withdrawn_text, unknown_text, longest_text, shown_mark, shown_marks, spaced_marks, marks_text, part_text, tag_text, tags_text, parts_text, refused_text};
+ghost use Rattle.orders.specs.Printing.{pair_text, filed_text, withdrawn_text, unknown_text, longest_text, shown_mark, shown_marks, spaced_marks, marks_text, part_text, tag_text, tags_text, parts_text, refused_text};
 ghost use Rattle.text.specs.Texts.{Adds};
 ghost use Rattle.std.specs.Prelude.{◌≡◌};
 
@@ -8,7 +8,7 @@ use sheet::{Part, Sheet};
 use shelf::refusal::Refusal;
 use text::buffer::Text;
 
-// Writes a refusal on a line of its own: `refused 6 at 5`.
+/// Writes a refusal on a line of its own: `refused 6 at 5`.
 pub fn write_refused(out: &mut Text, refusal: Refusal)
     ensures { Adds out.old (refused_text refusal) out.new }
 {
@@ -16,40 +16,44 @@ pub fn write_refused(out: &mut Text, refusal: Refusal)
     out.byte(b'\n');
 }
 
-// `refused 19`, where the bytes are no order.
+/// `refused 19`, where the bytes are no order.
 pub fn write_unknown(out: &mut Text)
     ensures { Adds out.old unknown_text out.new }
 {
     out.text(b"refused 19\n");
 }
 
-// `ok 4 2`: how many tests and tags the pattern has that was filed.
-pub fn write_filed(out: &mut Text, tests: usize, tags: usize)
-    ensures { Adds out.old (filed_text tests tags) out.new }
+// Writes a label and two numbers, on a line of their own.
+fn write_pair(out: &mut Text, label: &[u8], first: usize, second: usize)
+    ensures { Adds out.old (pair_text label.now first second) out.new }
 {
-    out.text(b"ok ");
-    out.number(tests as u64);
+    out.text(label);
     out.byte(b' ');
-    out.number(tags as u64);
+    out.number(first as u64);
+    out.byte(b' ');
+    out.number(second as u64);
     out.byte(b'\n');
 }
 
-// `ok`, where a pattern was withdrawn.
+/// `ok 4 2`: how many tests and tags the pattern has that was filed.
+pub fn write_filed(out: &mut Text, tests: usize, tags: usize)
+    ensures { Adds out.old (filed_text tests tags) out.new }
+{
+    write_pair(out, b"ok", tests, tags);
+}
+
+/// `ok`, where a pattern was withdrawn.
 pub fn write_withdrawn(out: &mut Text)
     ensures { Adds out.old withdrawn_text out.new }
 {
     out.text(b"ok\n");
 }
 
-// `longest 3 21`: the two ends of the longest stretch.
+/// `longest 3 21`: the two ends of the longest stretch.
 pub fn write_longest(out: &mut Text, left: usize, right: usize)
     ensures { Adds out.old (longest_text left right) out.new }
 {
-    out.text(b"longest ");
-    out.number(left as u64);
-    out.byte(b' ');
-    out.number(right as u64);
-    out.byte(b'\n');
+    write_pair(out, b"longest", left, right);
 }
 
 // The sign of a mark: a full stop for 0, and a hash for any other.
@@ -78,7 +82,7 @@ fn write_spaced(out: &mut Text, marks: &[u8])
     }
 }
 
-// `marks ...###`: a sign for each symbol, and `marks` alone where there is none.
+/// `marks ...###`: a sign for each symbol, and `marks` alone where there is none.
 pub fn write_marks(out: &mut Text, marks: &[u8])
     ensures { Adds out.old (marks_text marks.now) out.new }
 {
@@ -120,7 +124,7 @@ fn write_tags(out: &mut Text, parts: &[Option<Part>])
     }
 }
 
-// `parts 1:3-7 2:none`: the parts of the first so many tags, and `parts` alone where there is none.
+/// `parts 1:3-7 2:none`: the parts of the first so many tags, and `parts` alone where there is none.
 pub fn write_parts(out: &mut Text, tags: usize, sheet: &Sheet)
     ensures { Adds out.old (parts_text tags sheet.now.entries) out.new }
 {

@@ -10,7 +10,7 @@ use Rattle.pattern.specs.Tokens.{Reading, sign_kind, token, tested, first_token,
 use Rattle.pattern.specs.Scanning.{Before, nothing, so_far, join, choose, Bracket, whole, plain, tagged, Frame, frame, State, want, have, Step, go, stop, unit_step, close_step, close_tag_step, end_step, step, conclude, scan, start, scanned}
 use Rattle.pattern.specs.Descent.{is_end}
 use Rattle.pattern.specs.Patterns.{syntax, written}
-use Rattle.pattern.specs.Grammar.{Part, group, branch, unit, Seen, one_tag_more, Derives, a_test, a_group, a_tag, none_or_more, one_or_more, none_or_one, first_unit, next_unit, first_branch, next_branch, Derived, Derivable, DerivesOnly}
+use Rattle.pattern.specs.Grammar.{Nonterminal, group, branch, unit, Seen, one_tag_more, Derives, a_test, a_group, a_tag, none_or_more, one_or_more, none_or_one, first_unit, next_unit, first_branch, next_branch, Derived, Derivable, DerivesOnly}
 use Rattle.pattern.proofs.Steps.{absurd_of}
 use Rattle.std.proofs.lemmas.Bool.{lt-ltb, cond-true, cond-false}
 
@@ -34,12 +34,12 @@ abbrev Same : ℕ → State → Seen → List Token → State → Seen → List 
 Same end st s ts st' s' ts' = scan st s.codes s.tags end ts ≡ scan st' s'.codes s'.tags end ts'
 
 -- before a unit, that a unit was just read is as good as that one is wanted
-abbrev Begins : ℕ → Part → Seen → List Token → Type 0
+abbrev Begins : ℕ → Nonterminal → Seen → List Token → Type 0
 Begins end group s ts = Unit {0}
 Begins end branch s ts = Unit {0}
 Begins end unit s ts = (k : Bracket) (a b : Before) (u : Expr) (gs : List Frame) → Same end (have (frame k a b) u gs) s ts (want (frame k a (so_far (join b u))) gs) s ts
 
-begins : (end : ℕ) {p : Part} {d : ℕ} {s s' : Seen} {ts ts' : List Token} {e : Expr} → Derives p d s ts e s' ts' → Begins end p s ts
+begins : (end : ℕ) {p : Nonterminal} {d : ℕ} {s s' : Seen} {ts ts' : List Token} {e : Expr} → Derives p d s ts e s' ts' → Begins end p s ts
 begins end (a_test h) = λ k a b u gs. refl
 begins end (a_group h r) = λ k a b u gs. refl
 begins end (a_tag h m r) = λ k a b u gs. refl
@@ -51,12 +51,12 @@ begins end (next_unit r q) = tt
 begins end (first_branch r) = tt
 begins end (next_branch r q) = tt
 
-abbrev Scans : ℕ → Part → ℕ → Seen → List Token → Expr → Seen → List Token → Type 0
+abbrev Scans : ℕ → Nonterminal → ℕ → Seen → List Token → Expr → Seen → List Token → Type 0
 Scans end group d s ts e s' ts' = (k : Bracket) → (a : Before) × (b : Before) × (u : Expr) × (choose a (join b u) ≡ e) × ((gs : List Frame) → length gs ≡ d → Same end (want (frame k nothing nothing) gs) s ts (have (frame k a b) u gs) s' ts')
 Scans end branch d s ts e s' ts' = (k : Bracket) (a : Before) → (b : Before) × (u : Expr) × (join b u ≡ e) × ((gs : List Frame) → length gs ≡ d → Same end (want (frame k a nothing) gs) s ts (have (frame k a b) u gs) s' ts')
 Scans end unit d s ts e s' ts' = (f : Frame) (gs : List Frame) → length gs ≡ d → Same end (want f gs) s ts (have f e gs) s' ts'
 
-scans : (end : ℕ) {p : Part} {d : ℕ} {s s' : Seen} {ts ts' : List Token} {e : Expr} → Derives p d s ts e s' ts' → Scans end p d s ts e s' ts'
+scans : (end : ℕ) {p : Nonterminal} {d : ℕ} {s s' : Seen} {ts ts' : List Token} {e : Expr} → Derives p d s ts e s' ts' → Scans end p d s ts e s' ts'
 scans end (a_test {s = s} {ts = ts} {code = code} {i = i} h) = λ f gs l.
     let st : State = have f (test (length s.codes + 1)) gs in
     after (want f gs) s.codes s.tags end (token (Kind.Test (Ok code)) i) ts (go st) (cond-true _ _ _ (lt-ltb _ _ h))
@@ -113,7 +113,7 @@ record Inside (d : ℕ) (s : Seen) (ts : List Token) (a b : Before) (s' : Seen) 
   branches : BranchesTo d s ts a mid rest
   units : UnitsTo d mid rest b s' ts'
 
-from_same : {p : Part} {d : ℕ} {s s' s'' : Seen} {ts ts' ts'' : List Token} {u : Expr} → s ≡ s' → ts ≡ ts' → Derives p d s' ts' u s'' ts'' → Derives p d s ts u s'' ts''
+from_same : {p : Nonterminal} {d : ℕ} {s s' s'' : Seen} {ts ts' ts'' : List Token} {u : Expr} → s ≡ s' → ts ≡ ts' → Derives p d s' ts' u s'' ts'' → Derives p d s ts u s'' ts''
 from_same {p = p} {d = d} {s' = s'} {s'' = s''} {ts = ts} {ts'' = ts''} {u = u} e q r = subst (λ x. Derives p d x ts u s'' ts'') (sym e) (subst (λ y. Derives p d s' y u s'' ts'') (sym q) r)
 
 in_row : {d : ℕ} {s s' s'' : Seen} {ts ts' ts'' : List Token} {u : Expr} (b : Before) → UnitsTo d s ts b s' ts' → Derives unit d s' ts' u s'' ts'' → Derives branch d s ts (join b u) s'' ts''

@@ -6,7 +6,8 @@ use Rattle.automaton.specs.Reads as machine
 use Rattle.pattern.specs.Expressions.{Expr}
 use Rattle.pattern.specs.Positions.{size, numbered}
 use Rattle.pattern.specs.Gathering.{PositionsOf}
-use Rattle.pattern.specs.Spelling.{tests_of, Below, HasWords}
+use Rattle.automaton.specs.Reads.{tests_of}
+use Rattle.pattern.specs.Spelling.{Below, HasWords}
 use Rattle.automaton.proofs.BitTests.{bit_in, in_bit}
 use Rattle.pattern.proofs.Sets.{to_null, of_null, to_first, of_first, to_last, of_last, to_follow, of_follow, to_ranged}
 use Rattle.pattern.proofs.Walks.{First, Last, Follow, Path, Walk, Ranged, word_walk}

@@ -15,6 +15,7 @@ pub record Source : Type 0 where
   pub list : List Token
   pub end : ℕ
 
+-- such tokens, and the length in bytes
 abbrev pub source : List Token → ℕ → Source
 source ts end = record { list = ts; end = end }
 
@@ -24,12 +25,15 @@ look end [] i = token End end
 look end (t ∷ ts) zero = t
 look end (t ∷ ts) (suc i) = look end ts i
 
+-- the token at a place of a source
 abbrev pub at : Source → ℕ → Token
 at s i = look s.end s.list i
 
+-- its kind
 abbrev pub kind_at : Source → ℕ → Kind
 kind_at s i = (at s i).kind
 
+-- its offset
 abbrev pub offset_at : Source → ℕ → ℕ
 offset_at s i = (at s i).offset
 
@@ -45,9 +49,11 @@ tags_before [] i = 0
 tags_before (t ∷ ts) zero = 0
 tags_before (t ∷ ts) (suc i) = tag_of t.kind + tags_before ts i
 
+-- the numbers of the tests before a place of a source
 abbrev pub codes : Source → ℕ → List ℕ
 codes s i = codes_before s.list i
 
+-- how many tags are opened before a place of a source
 abbrev pub tags : Source → ℕ → ℕ
 tags s i = tags_before s.list i
 
@@ -58,6 +64,7 @@ is_unit Open = true
 is_unit OpenTag = true
 is_unit _ = false
 
+-- the end stands here
 abbrev pub is_end : Kind → Bool
 is_end End = true
 is_end _ = false

@@ -8,6 +8,7 @@ pub data Expr : Type 0 where
   star plus opt : Expr → Expr
   tag : ℕ → Expr → Expr
 
+-- the expression is or contains a tag
 abbrev pub has_tag : Expr → Bool
 has_tag (test n) = false
 has_tag (seq e f) = has_tag e || has_tag f

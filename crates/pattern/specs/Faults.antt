@@ -5,6 +5,7 @@ use Rattle.alphabet.specs.Causes.{cause_words}
 use Rattle.pattern.specs.declared.fault.Fault.{Fault}
 use Rattle.pattern.specs.declared.fault.Fault.TheVariants.{TooLong, BadTest, MissingUnit, LooseBracket, TooDeep, TooManyTests, TooManyTags, RepeatedTag}
 
+-- the number under which a fault is reported
 abbrev pub fault_number : Fault → ℕ
 fault_number TooLong = 4
 fault_number (BadTest m) = 5
@@ -15,6 +16,7 @@ fault_number (TooManyTests at) = 9
 fault_number (TooManyTags at) = 10
 fault_number (RepeatedTag at) = 11
 
+-- what is wrong, in words
 abbrev pub fault_words : Fault → List ℕ
 fault_words TooLong = codes "longer than 120 bytes"
 fault_words (BadTest m) = cause_words m.cause
@@ -25,6 +27,7 @@ fault_words (TooManyTests at) = codes "more than 64 tests"
 fault_words (TooManyTags at) = codes "more than 8 tags"
 fault_words (RepeatedTag at) = codes "a * or + repeats a tag"
 
+-- where the pattern goes wrong; one that is too long goes wrong nowhere in particular
 abbrev pub fault_offset : Fault → Option ℕ
 fault_offset TooLong = None
 fault_offset (BadTest m) = Some m.offset
@@ -35,6 +38,7 @@ fault_offset (TooManyTests at) = Some at
 fault_offset (TooManyTags at) = Some at
 fault_offset (RepeatedTag at) = Some at
 
+-- the notation's own cause, of a bad test
 abbrev pub fault_cause : Fault → Option Cause
 fault_cause (BadTest m) = Some m.cause
 fault_cause _ = None

@@ -5,23 +5,26 @@ use Rattle.pattern.specs.declared.token.Token.{Token}
 use Rattle.pattern.specs.Expressions.{Expr, test, seq, either, star, plus, opt, tag, has_tag, Syntax}
 use Rattle.pattern.specs.Tokens.{Reading, token, tokens}
 
-pub data Part : Type 0 where
-  group branch unit : Part
+-- the nonterminals of the grammar
+pub data Nonterminal : Type 0 where
+  group branch unit : Nonterminal
 
 -- what stands before a place: tests of these numbers, and so many tags
 pub record Seen : Type 0 where
   pub codes : List ℕ
   pub tags : ℕ
 
+-- the same with one test more, of this number
 abbrev pub one_test_more : Seen → ℕ → Seen
 one_test_more s code = record { codes = s.codes ++ (code ∷ []); tags = s.tags }
 
+-- the same with one tag more
 abbrev pub one_tag_more : Seen → Seen
 one_tag_more s = record { codes = s.codes; tags = s.tags + 1 }
 
--- Derives p d s ts e s' ts': with d groups open, and s before them, the tokens ts begin with a part p that stands for
--- the expression e; s' is what stands before the tokens ts' that follow it. Tests and tags are numbered as written.
-pub data Derives : Part → ℕ → Seen → List Token → Expr → Seen → List Token → Type 0 where
+-- Derives n d s ts e s' ts': with d groups open, and s before them, the tokens ts begin with what the nonterminal n derives, and it
+-- stands for the expression e; s' is what stands before the tokens ts' that follow it. Tests and tags are numbered as written.
+pub data Derives : Nonterminal → ℕ → Seen → List Token → Expr → Seen → List Token → Type 0 where
   a_test : {d : ℕ} {s : Seen} {ts : List Token} {code i : ℕ} → length s.codes < 64
       → Derives unit d s (token (Test (Ok code)) i ∷ ts) (test (length s.codes + 1)) (one_test_more s code) ts
   a_group : {d : ℕ} {s s' : Seen} {ts ts' : List Token} {e : Expr} {i j : ℕ} → d < 8

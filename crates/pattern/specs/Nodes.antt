@@ -9,13 +9,15 @@ use Rattle.pattern.specs.Expressions.{Expr, has_tag}
 use Rattle.pattern.specs.Trees.{node, Stands}
 use Rattle.pattern.specs.Descent.{Source, source, kind_at, offset_at, Out, good, bad, Want, repeats, Parses}
 
+-- the tokens and the length that a reader reads
 abbrev pub source_of : Reader → Source
 source_of r = source r.tokens.now r.end
 
--- the token at the reader's place
+-- the kind of the token at the reader's place
 abbrev pub kind_here : Reader → Kind
 kind_here r = kind_at (source_of r) r.pos
 
+-- its offset
 abbrev pub offset_here : Reader → ℕ
 offset_here r = offset_at (source_of r) r.pos
 

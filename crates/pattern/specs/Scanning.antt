@@ -37,6 +37,7 @@ pub data State : Type 0 where
   want : Frame → List Frame → State
   have : Frame → Expr → List Frame → State
 
+-- after one token the scan goes on in a state, or it stops with an expression or a fault
 pub data Step : Type 0 where
   go : State → Step
   stop : Result Expr Fault → Step
@@ -99,6 +100,7 @@ abbrev pub at_end : State → ℕ → Result Expr Fault
 at_end (want f gs) i = Err (MissingUnit i)
 at_end (have f e gs) i = end_step f e i
 
+-- an expression with the numbers of the tests and of the tags is the pattern as it was written; a fault stays what it is
 abbrev pub conclude : List ℕ → ℕ → Result Expr Fault → Result Syntax Fault
 conclude codes g (Ok e) = Ok (record { tree = e; codes = codes; tags = g })
 conclude codes g (Err f) = Err f
@@ -112,9 +114,11 @@ scan s codes g end (t ∷ ts) =
       | stop r ↦ conclude codes g r
     ]
 
+-- before the first token a unit is wanted, and only the whole pattern is open
 abbrev pub start : State
 start = want (frame whole nothing nothing) []
 
+-- what a pattern's tokens come to; `end` is the pattern's length
 abbrev pub scanned : ℕ → List Token → Result Syntax Fault
 scanned end ts = scan start [] 0 end ts
 

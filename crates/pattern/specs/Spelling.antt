@@ -1,13 +1,8 @@
 -- An automaton and the words of an expression.
-use Rattle.std.specs.Prelude.{◌≡◌, ℕ, ◌+◌, ◌<◌, List, [], ◌∷◌}
+use Rattle.std.specs.Prelude.{◌≡◌, ℕ, ◌<◌, List, [], ◌∷◌}
 use Rattle.automaton.specs.declared.machine.Automaton.{Automaton}
-use Rattle.automaton.specs.Reads.{Walk}
+use Rattle.automaton.specs.Reads.{Walk, tests_of}
 use Rattle.pattern.specs.Expressions.{Expr, Word}
-
--- the tests that have these positions
-abbrev pub tests_of : List ℕ → List ℕ
-tests_of [] = []
-tests_of (k ∷ ks) = (k + 1) ∷ tests_of ks
 
 -- positions below n
 abbrev pub Below : ℕ → List ℕ → Type 0

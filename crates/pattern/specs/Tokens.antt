@@ -26,6 +26,7 @@ sign_kind b =
     (cond (b == 123) (Some OpenTag)
     (cond (b == 125) (Some CloseTag) None)))))))
 
+-- a token of this kind at this offset
 abbrev pub token : Kind → ℕ → Token
 token k at = record { kind = k; offset = at }
 
@@ -46,6 +47,7 @@ tokens_from reading at zero (b ∷ bytes) =
     token (first_token reading at (b ∷ bytes)).0 at ∷ tokens_from reading (at + 1) ((first_token reading at (b ∷ bytes)).1 - 1) bytes
 tokens_from reading at (suc skip) (b ∷ bytes) = tokens_from reading (at + 1) skip bytes
 
+-- the tokens of a pattern's bytes
 abbrev pub tokens : Reading → List ℕ → List Token
 tokens reading bytes = tokens_from reading 0 0 bytes
 

@@ -4,6 +4,7 @@ use Rattle.pattern.specs.declared.node.Node.{Node}
 use Rattle.pattern.specs.declared.node.Node.TheVariants.{Test, Seq, Or, Star, Plus, Opt, Tag}
 use Rattle.pattern.specs.Expressions.{Expr, test, seq, either, star, plus, opt, tag}
 
+-- the node of a number; a test of the number 0 where the table has none
 abbrev pub node : List Node → ℕ → Node
 node ns k = slice_index_or ns k (Test 0)
 

@@ -2,16 +2,19 @@
 use Rattle.std.specs.List.{flat_map}
 use Rattle.std.specs.Prelude.{◌≡◌, ℕ, ◌+◌, ◌/◌, ◌%◌, ◌≤◌, Bool, cond, ◌&&◌, List, [], ◌∷◌, ◌++◌, length, take, drop, replicate, Some, None, codes, Option, nat_le, nat_lt}
 
+-- the sign of a hexadecimal digit: 0 to 9, and then A to F
 abbrev pub hex_digit : ℕ → ℕ
 hex_digit d = cond (nat_lt d 10) (48 + d) (55 + d)
 
--- from the space to the tilde
+-- the byte prints: it is one from the space to the tilde
 abbrev pub prints : ℕ → Bool
 prints b = nat_le 32 b && nat_le b 126
 
+-- a byte that prints is shown as itself, any other as \x and its two hexadecimal digits
 abbrev pub shown_byte : ℕ → List ℕ
 shown_byte b = cond (prints b) (b ∷ []) (codes "\\x" ++ (hex_digit (b / 16) ∷ hex_digit (b % 16) ∷ []))
 
+-- the bytes of a list as they are shown, one after another
 abbrev pub shown : List ℕ → List ℕ
 shown bs = flat_map shown_byte bs
 

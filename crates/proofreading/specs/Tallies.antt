@@ -4,6 +4,7 @@ use Rattle.shelf.specs.Refusals.{refusal_number}
 use Rattle.proofreading.specs.declared.tally.Tally.{Tally}
 use Rattle.proofreading.specs.Verdicts.{Verdict}
 
+-- the tally of no verdicts
 abbrev pub none_yet : Tally
 none_yet = record { patterns = 0; lawful = 0; refused = 0; by_number = replicate 16 0 }
 
@@ -11,9 +12,11 @@ none_yet = record { patterns = 0; lawful = 0; refused = 0; by_number = replicate
 abbrev pub capped : ℕ → ℕ
 capped n = min n (2 ^ 64 - 1)
 
+-- a count with one more, as far as it can rise
 abbrev pub one_more : ℕ → ℕ
 one_more n = capped (n + 1)
 
+-- the tally with one verdict more
 abbrev pub tallied : Tally → Verdict → Tally
 tallied t (Ok counts) = record { patterns = one_more t.patterns; lawful = one_more t.lawful; refused = t.refused; by_number = t.by_number }
 tallied t (Err refusal) =

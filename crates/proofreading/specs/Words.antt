@@ -22,6 +22,7 @@ refusal_names =
     ∷ codes "no match"
     ∷ []
 
+-- the short name of the refusals of a number
 abbrev pub refusal_name : ℕ → List ℕ
 refusal_name n = slice_index_or refusal_names n []
 

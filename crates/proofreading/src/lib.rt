@@ -1,4 +1,4 @@
-// What a proof-reader of patterns prints: a verdict on each pattern, and a report at the end.
+//! What a proof-reader of patterns prints: a verdict on each pattern, and a report at the end.
 #![tactic(auto, using(text::proofs::Chains::nothing))]
 
 use pattern::MOST_BYTES;

@@ -9,6 +9,7 @@ use alphabet::letters::Letters;
 use shelf::Shelf;
 use text::buffer::Text;
 
+/// A shelf on which each pattern is filed in turn, and the tally of the verdicts.
 #[derive(Drop)]
 pub struct Proofreader {
     shelf: Shelf<Letters>,
@@ -24,6 +25,7 @@ impl Proofreader {
     ghost use Rattle.proofreading.specs.Verdicts.{verdict_text};
     ghost use Rattle.text.specs.Texts.{written};
 
+    /// A proof-reader that has seen no pattern.
     pub fn new() -> Proofreader
         ensures { Starts result.tally }
     {
@@ -33,7 +35,7 @@ impl Proofreader {
         }
     }
 
-    // Writes the verdict on the next pattern. Of a longer one its first 121 bytes are enough.
+    /// Writes the verdict on the next pattern. Of a longer one its first 121 bytes are enough.
     pub fn proofread(&mut self, bytes: &[u8], out: &mut Text)
         ensures verdict { written out.new ≡ verdict_text (one_more self.old.tally.patterns) bytes.now (verdict_on bytes.now) }
         ensures tally { Counts self.old.tally (verdict_on bytes.now) self.new.tally }
@@ -45,7 +47,7 @@ impl Proofreader {
         write_verdict(out, self.tally.patterns, bytes, verdict);
     }
 
-    // Writes how many patterns there were, and how many of them were refused under each number.
+    /// Writes how many patterns there were, and how many of them were refused under each number.
     pub fn report(&self, out: &mut Text)
         ensures { written out.new ≡ report_text self.now.tally }
     {

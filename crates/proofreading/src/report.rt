@@ -34,7 +34,7 @@ fn write_number(out: &mut Text, number: usize, count: u64)
     }
 }
 
-// How many patterns there were, and how many of them were refused under each number.
+/// How many patterns there were, and how many of them were refused under each number.
 pub fn write_report(out: &mut Text, tally: &Tally)
     ensures { written out.new ≡ report_text tally.now }
 {

@@ -3,6 +3,7 @@ ghost use Rattle.proofreading.specs.Tallies.{Starts, Counts};
 
 use shelf::refusal::Refusal;
 
+/// Counts of verdicts.
 #[derive(Clone, Copy)]
 pub struct Tally {
     pub patterns: u64,
@@ -13,6 +14,7 @@ pub struct Tally {
 }
 
 impl Tally {
+    /// No verdict is counted yet.
     #[tactic(auto, using(crate::proofs::Recounts::none_yet_lem))]
     pub fn new() -> Tally
         ensures { Starts result }
@@ -25,7 +27,7 @@ impl Tally {
         }
     }
 
-    // Counts a verdict. A count that can rise no more stays as it is.
+    /// Counts a verdict. A count that can rise no more stays as it is.
     #[tactic(auto, using(crate::proofs::Recounts::recounted))]
     pub fn count(&mut self, verdict: Result<(usize, usize), Refusal>)
         ensures { Counts self.old verdict self.new }

@@ -35,8 +35,8 @@ fn write_refused(out: &mut Text, bytes: &[u8], refusal: Refusal)
     write_caret(out, bytes, refusal.offset());
 }
 
-// The verdict on the pattern in a line, then the pattern, and a caret below the place where it goes wrong. A lawful
-// pattern comes with its numbers of tests and tags.
+/// The verdict on the pattern in a line, then the pattern, and a caret below the place where it goes wrong. A lawful
+/// pattern comes with its numbers of tests and tags.
 pub fn write_verdict(
     out: &mut Text,
     line: u64,

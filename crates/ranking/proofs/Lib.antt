@@ -1,3 +1,4 @@
 pub mod Reaching
 pub mod Orders
+pub mod Likeness
 mod Extents

@@ -1,6 +1,8 @@
 // A ranking that is one of two, for lists in which rankings are mixed.
+ghost use Rattle.std.specs.Prelude.{◌≡◌};
 ghost use Rattle.either.specs.Either.{map_either};
-ghost use Rattle.ranking.specs.OneOfTwo.{step_either, compare_either};
+ghost use Rattle.ranking.specs.OneOfTwo.{step_either, compare_either, start_there, stepped_there, compared_there};
+ghost use Rattle.ranking.specs.Ranks.{RankAlike};
 ghost use Rattle.ranking.specs.Sides.{either_law};
 
 use crate::Ranking;
@@ -19,7 +21,11 @@ impl<Q: Ranking, R: Ranking> Ranking for Either<Q, R> {
 
     ghost lawful = { either_law Q.lawful R.lawful };
 
-    fn start(&self) -> Self::Measure {
+    // Each rank begins here, so it is said here how ranks compare: as they do under the ranking that is there.
+    fn start(&self) -> Self::Measure
+        ensures on_its_side { result ≡ map_either Q.start R.start self.now }
+        ensures ranks_as_the_one_there { RankAlike result (step_either Q.stepped R.stepped self.now) (compare_either Q.compared R.compared self.now) (start_there Q.start R.start self.now) (stepped_there Q.stepped R.stepped self.now) (compared_there Q.compared R.compared self.now) }
+    {
         match self {
             Left(ranking) => Left(ranking.start()),
             Right(ranking) => Right(ranking.start()),

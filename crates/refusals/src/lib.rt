@@ -1,4 +1,4 @@
-// A refusal as it is printed: its number, and where it has them its offset and its cause.
+//! A refusal as it is printed: its number, and where it has them its offset and its cause.
 #![tactic(auto, using(text::proofs::Chains::nothing))]
 
 ghost use Rattle.refusals.specs.RefusalTexts.{refusal_text, offset_text, cause_text};
@@ -8,8 +8,8 @@ use alphabet::Cause;
 use shelf::refusal::Refusal;
 use text::buffer::Text;
 
-// Writes the offset with its word, where there is one. Beside `write_cause`, and not one function of a label and a number for both: each number would first have to be mapped to a `u64` by a
-// closure, which is no plainer than these lines.
+// Writes the offset with its word, where there is one. Beside `write_cause`, and not one function of a label and a number for both: each
+// number would first have to be mapped to a `u64` by a closure, which is no plainer than these lines.
 fn write_offset(out: &mut Text, offset: Option<usize>)
     ensures { Adds out.old (offset_text offset) out.new }
 {
@@ -29,7 +29,7 @@ fn write_cause(out: &mut Text, cause: Option<Cause>)
     }
 }
 
-// Writes the number of a refusal, and its offset and cause where it has them: `refused 3`, `refused 6 at 5`, `refused 5 at 0 cause 2`.
+/// Writes the number of a refusal, and its offset and cause where it has them: `refused 3`, `refused 6 at 5`, `refused 5 at 0 cause 2`.
 pub fn write_refusal(out: &mut Text, refusal: Refusal)
     ensures { Adds out.old (refusal_text refusal) out.new }
 {

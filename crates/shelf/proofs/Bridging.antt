@@ -6,7 +6,8 @@ use Rattle.automaton.specs.declared.machine.Automaton.{Automaton}
 use Rattle.automaton.specs.Reads as machine
 use Rattle.automaton.specs.Stretches.{Longest, NoneReads, Covered, MarkedRight, Marks}
 use Rattle.pattern.specs.Expressions.{Word, Syntax}
-use Rattle.pattern.specs.Spelling.{tests_of, Below}
+use Rattle.automaton.specs.Reads.{tests_of}
+use Rattle.pattern.specs.Spelling.{Below}
 use Rattle.automaton.proofs.BitTests.{bit_in, in_bit}
 use Rattle.shelf.specs.Asking.{Asked}
 use Rattle.shelf.specs.Matching.{test_admits, Admitted, stretch, Reads}

@@ -4,3 +4,4 @@ pub mod LanguageLaws
 pub mod Answering
 pub mod Wording
 pub mod Splitting
+pub mod Likeness

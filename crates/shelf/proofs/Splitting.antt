@@ -7,7 +7,8 @@ use Rattle.parts.specs.Parts.{PartsAlong, tags_of, is_in}
 use Rattle.parts.proofs.SameParts.{same_parts}
 use Rattle.pattern.specs.declared.kept.Pattern.{Pattern}
 use Rattle.pattern.specs.Expressions.{Expr, Syntax}
-use Rattle.pattern.specs.Spelling.{tests_of, HasWords}
+use Rattle.automaton.specs.Reads.{tests_of}
+use Rattle.pattern.specs.Spelling.{HasWords}
 use Rattle.pattern.specs.Tags.{inside, tag_set}
 use Rattle.pattern.proofs.TagSets.{tag_set_bit}
 use Rattle.sheet.specs.declared.Part.{Part}
@@ -23,7 +24,7 @@ use Rattle.shelf.specs.Reports.{with_room}
 use Rattle.shelf.specs.Splits.{SplitBy, for_split, asked_split}
 use Rattle.shelf.proofs.Answering.{short_enough}
 use Rattle.shelf.proofs.Bridging.{passes}
-use Rattle.shelf.proofs.Wording.{numbers_are_tests, test_at, tests_length, no_word, best_word}
+use Rattle.shelf.proofs.Wording.{test_at, tests_length, no_word, best_word}
 
 -- ---- what is asked
 -- a pattern that stands there, a line that is short enough, and two ends that are those of a stretch
@@ -87,7 +88,7 @@ module _ {S M : Type 0} (start : M) (stepped : M → ℕ → M) (compared : M �
   split_done was entries h parts =
       let n = in_the_line (Ok tt) h in
       let t = n.1.positions in
-      let front : take (r - l) after ≡ tests_of t = ap (λ n. take n after) (sym symbols) ∙ n.1.front ∙ numbers_are_tests t in
+      let front : take (r - l) after ≡ tests_of t = ap (λ n. take n after) (sym symbols) ∙ n.1.front in
       rw (roomy x (r - l) (length before) measures (omega (arith, symbols, n.0.1)) n.0.2) (record {
         word = tests_of t;
         best = best_word meaning x a words few_tests line l r start stepped compared sets (λ q low. are_sets q) t n.1.best;

@@ -2,20 +2,16 @@
 use Rattle.std.proofs.Common.{◌≡◌, ℕ, zero, suc, ◌+◌, ◌<◌, ◌≤◌, Bool, List, [], ◌∷◌, length, get_or, Ordering, sym, refl, ap, ◌∙◌, subst, arith}
 use Rattle.automaton.specs.declared.machine.Automaton.{Automaton}
 use Rattle.pattern.specs.Expressions.{Expr, Word, Syntax}
-use Rattle.pattern.specs.Spelling.{tests_of, Below, HasWords}
+use Rattle.automaton.specs.Reads.{tests_of}
+use Rattle.pattern.specs.Spelling.{Below, HasWords}
 use Rattle.pattern.specs.Tags.{tag_set}
 use Rattle.ranking.specs.Ranks.{rank_of}
 use Rattle.splitting.specs.Trails as machine
-use Rattle.splitting.specs.Trails.{sets_along, Before, Over, Best, test_numbers}
+use Rattle.splitting.specs.Trails.{sets_along, Before, Over, Best}
 use Rattle.splitting.proofs.Lengths.{length_of}
 use Rattle.shelf.specs.Matching.{test_admits, Admitted, stretch}
 use Rattle.shelf.specs.Splits.{Trail, rank, BestWord}
 use Rattle.shelf.proofs.Bridging.{passes, same}
-
--- the two ways in which the tests of positions are said
-pub numbers_are_tests : (t : List ℕ) → test_numbers t ≡ tests_of t
-numbers_are_tests [] = refl
-numbers_are_tests (q ∷ t) = ap (λ w. (q + 1) ∷ w) (numbers_are_tests t)
 
 pub tests_length : (t : List ℕ) → length (tests_of t) ≡ length t
 tests_length [] = refl

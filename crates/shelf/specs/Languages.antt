@@ -22,6 +22,7 @@ pub record OneSymbol {S : Type 0} (admits : ℕ → S → Bool) (p : ℕ) (strin
   pub is : string ≡ symbol ∷ []
   pub admitted : admits p symbol ≡ true
 
+-- the language of an expression: the strings of symbols that belong to it
 abbrev pub Language : {S : Type 0} → (ℕ → S → Bool) → Expr → List S → Type 0
 Language admits (test p) string = OneSymbol admits p string
 Language admits (seq e f) string = Concatenation (Language admits e) (Language admits f) string

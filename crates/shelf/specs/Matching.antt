@@ -6,7 +6,7 @@ use Rattle.pattern.specs.Expressions.{Expr, Word}
 abbrev pub test_admits : {S : Type 0} → (ℕ → S → Bool) → List ℕ → ℕ → S → Bool
 test_admits meaning codes p s = meaning (slice_index codes (p - 1)) s
 
--- the tests of a word admit the symbols of a string, one each
+-- the tests of a word admit the symbols of a string, one each. (Crate `splitting` has the same by positions of an automaton.)
 abbrev pub Admitted : {S : Type 0} → (ℕ → S → Bool) → List ℕ → List S → Type 0
 Admitted admits [] [] = Unit {0}
 Admitted admits [] (s ∷ string) = ⊥

@@ -12,6 +12,7 @@ abbrev pub unsplit : Unsplit → Refusal
 unsplit NoRoom = BufferTooShort
 unsplit NoTrail = NoMatch
 
+-- the number under which a refusal is reported
 abbrev pub refusal_number : Refusal → ℕ
 refusal_number NoSuchPlace = 1
 refusal_number PlaceTaken = 2
@@ -22,6 +23,7 @@ refusal_number BufferTooShort = 13
 refusal_number EndsMisfit = 14
 refusal_number NoMatch = 15
 
+-- what is wrong, in words
 abbrev pub refusal_words : Refusal → List ℕ
 refusal_words NoSuchPlace = codes "no such place"
 refusal_words PlaceTaken = codes "the place is taken"
@@ -32,6 +34,7 @@ refusal_words BufferTooShort = codes "the buffer is too short"
 refusal_words EndsMisfit = codes "the ends are not those of a stretch of the line"
 refusal_words NoMatch = codes "nothing reads"
 
+-- where in the pattern it goes wrong, if it is the pattern that goes wrong
 abbrev pub refusal_offset : Refusal → Option ℕ
 refusal_offset NoSuchPlace = None
 refusal_offset PlaceTaken = None
@@ -42,6 +45,7 @@ refusal_offset BufferTooShort = None
 refusal_offset EndsMisfit = None
 refusal_offset NoMatch = None
 
+-- the notation's own cause, of a bad test
 abbrev pub refusal_cause : Refusal → Option Cause
 refusal_cause NoSuchPlace = None
 refusal_cause PlaceTaken = None

@@ -21,7 +21,7 @@ asked_in register place symbols = for_line (standing_in register place) symbols
 abbrev pub asked : List (Option Pattern) → ℕ → ℕ → Result Syntax Refusal
 asked places place symbols = asked_in (held_at places) place symbols
 
--- the longest stretch, or that none reads
+-- what the longest call answers by a pattern, or by the refusal that is due: the longest stretch, or that none reads
 abbrev pub LongestBy : {S : Type 0} → (ℕ → S → Bool) → Result Syntax Refusal → List S → Result (ℕ × ℕ) Refusal → Type 0
 LongestBy meaning (Err refusal) line r = r ≡ Err refusal
 LongestBy meaning (Ok x) line (Ok ends) = Longest (Reads (test_admits meaning x.codes) x.tree line) ends
@@ -32,7 +32,7 @@ abbrev pub with_room : Result Syntax Refusal → ℕ → ℕ → Result Syntax R
 with_room (Err refusal) symbols room = Err refusal
 with_room (Ok x) symbols room = cond (nat_le symbols room) (Ok x) (Err BufferTooShort)
 
--- the marks and their count; a refusal leaves the buffer as it was
+-- what marking answers by a pattern, or by the refusal that is due: the marks and their count; a refusal leaves the buffer as it was
 abbrev pub MarksBy : {S : Type 0} → (ℕ → S → Bool) → Result Syntax Refusal → List S → List ℕ → List ℕ → Result ℕ Refusal → Type 0
 MarksBy meaning (Err refusal) line before after r = (r ≡ Err refusal) × (after ≡ before)
 MarksBy meaning (Ok x) line before after (Ok count) = Marks (Reads (test_admits meaning x.codes) x.tree line) (length line) before after count

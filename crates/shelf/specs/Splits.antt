@@ -13,7 +13,8 @@ use Rattle.shelf.specs.declared.refusal.Refusal.TheVariants.{EndsMisfit, NoMatch
 use Rattle.shelf.specs.Matching.{test_admits, Admitted, stretch}
 use Rattle.shelf.specs.Reports.{asked, with_room}
 
--- a trail of the stretch l to r: a word of the expression that has, symbol by symbol, a test that admits it
+-- a trail of the stretch l to r: a word of the expression that has, symbol by symbol, a test that admits it. (Crate `splitting` has the
+-- same by positions of an automaton.)
 pub record Trail {S : Type 0} (admits : ℕ → S → Bool) (e : Expr) (line : List S) (l r : ℕ) (word : List ℕ) : Type 0 where
   pub is_word : Word e word
   pub admitted : Admitted admits word (stretch line l r)
@@ -53,7 +54,8 @@ module _ {S M : Type 0} (start : M) (stepped : M → ℕ → M) (compared : M �
     pub rest : drop (r - l) after ≡ drop (r - l) before
     pub parts : PartsAlong (inside x.tree) l word entries
 
-  -- the best trail and its parts, or that the stretch has no trail; a refusal leaves the buffer and the entries as they were
+  -- What splitting answers by a pattern, or by the refusal that is due: the best trail and its parts are written, or it is said that the
+  -- stretch has no trail. A refusal leaves the buffer and the entries as they were.
   abbrev pub SplitBy : Result Syntax Refusal → List S → ℕ → ℕ → List ℕ → List ℕ → List (Option Part) → List (Option Part) → Result (Unit {0}) Refusal → Type 0
   SplitBy (Err refusal) line l r before after was is answer = (answer ≡ Err refusal) × (after ≡ before) × (is ≡ was)
   SplitBy (Ok x) line l r before after was is (Ok _) = BestSplit x line l r before after is

@@ -1,4 +1,4 @@
-// A shelf of ten places for patterns, over any notation.
+//! A shelf of ten places for patterns, over any notation.
 #![tactic(auto)]
 
 ghost use Rattle.std.specs.Prelude.{◌≡◌, ◌<◌, [], replicate, is_ok, if◌then◌else◌, None, Ok, Err, MatchResult, OnOk, slice_set};
@@ -18,9 +18,10 @@ mod splits;
 use refusal::Refusal;
 pub use splits::part_of_line;
 
-// How many places a shelf has.
+/// How many places a shelf has.
 pub const PLACES: usize = 10;
 
+/// Ten places over one notation. A place is bare, or one pattern stands there.
 #[derive(Drop)]
 pub struct Shelf<N: Notation> {
     notation: N,
@@ -28,7 +29,7 @@ pub struct Shelf<N: Notation> {
 }
 
 impl<N: Notation> Shelf<N> {
-    // A shelf with nothing at any place.
+    /// A shelf with nothing at any place.
     pub fn new(notation: N) -> Shelf<N>
         ensures all_bare { result.places ≡ replicate 10 None }
         ensures takes_notation { result.notation ≡ notation }
@@ -49,7 +50,7 @@ impl<N: Notation> Shelf<N> {
         held.as_ref().ok_or(Refusal::PlaceBare)
     }
 
-    // Files a pattern at a bare place, and answers how many tests and tags it has.
+    /// Files a pattern at a bare place, and answers how many tests and tags it has.
     pub fn file(&mut self, place: usize, bytes: &[u8]) -> Result<(usize, usize), Refusal>
         ensures counts_or_refusal { result ≡ counts (filing (N.Notation.reading self.old.notation) self.old.places place bytes.now) }
         ensures pattern_stands_there { FiledAfter (filing (N.Notation.reading self.old.notation) self.old.places place bytes.now) place self.old.places self.new.places }
@@ -70,7 +71,7 @@ impl<N: Notation> Shelf<N> {
         Ok(counts)
     }
 
-    // Takes the pattern at a place away.
+    /// Takes the pattern at a place away.
     pub fn withdraw(&mut self, place: usize) -> Result<(), Refusal>
         ensures done_or_refusal { result ≡ withdrawing self.old.places place }
         ensures only_that_place_is_bared { self.new.places ≡ (if is_ok result then slice_set self.old.places place None else self.old.places) }

@@ -1,4 +1,4 @@
-// Why a call on the shelf is turned down.
+// The refusals of the shelf's calls.
 ghost use Rattle.std.specs.Prelude.{◌≡◌, Some};
 ghost use Rattle.shelf.specs.Refusals.{refusal_number, refusal_words, refusal_offset, refusal_cause, unsplit};
 ghost use Rattle.shelf.specs.declared.refusal.Refusal.TheVariants.{Unlawful};
@@ -9,6 +9,7 @@ use splitting::Unsplit;
 use std::error::Error;
 use std::fmt;
 
+/// Why a call is turned down.
 #[derive(Clone, Copy, PartialEq, Eq, Debug)]
 pub enum Refusal {
     NoSuchPlace,
@@ -53,7 +54,8 @@ impl fmt::Display for Refusal {
 impl Error for Refusal {}
 
 impl Refusal {
-    // The number under which a refusal is reported. By hand, since a case that holds a value has no discriminant of its own.
+    /// The number under which a refusal is reported.
+    // By hand, since a case that holds a value has no discriminant of its own.
     pub fn number(self) -> u8
         ensures { result ≡ refusal_number self }
     {
@@ -69,7 +71,7 @@ impl Refusal {
         }
     }
 
-    // What is wrong, for one who has no manual at hand.
+    /// What is wrong, for one who has no manual at hand.
     pub fn words(self) -> &'static str
         ensures { result.now ≡ refusal_words self }
     {
@@ -85,7 +87,7 @@ impl Refusal {
         }
     }
 
-    // Where in the pattern it goes wrong, if it is the pattern that goes wrong.
+    /// Where in the pattern it goes wrong, if it is the pattern that goes wrong.
     pub fn offset(self) -> Option<usize>
         ensures { result ≡ refusal_offset self }
     {
@@ -95,7 +97,7 @@ impl Refusal {
         }
     }
 
-    // The notation's own cause, of a bad test.
+    /// The notation's own cause, of a bad test.
     pub fn cause(self) -> Option<Cause>
         ensures { result ≡ refusal_cause self }
     {

@@ -24,7 +24,7 @@ impl<N: Notation> Shelf<N> {
         Ok((pattern.automaton(), rows))
     }
 
-    // The longest stretch that the pattern at a place reads, by its two ends, and of several the leftmost.
+    /// The longest stretch that the pattern at a place reads, by its two ends, and of several the leftmost.
     #[tactic(auto, using(crate::proofs::LanguageLaws::by_language))]
     pub fn longest(&self, place: usize, line: &[N::Symbol]) -> Result<(usize, usize), Refusal>
         ensures longest_or_refusal { LongestBy (N.Alphabet.meaning self.now.notation) (asked self.now.places place (length line.now)) line.now result }
@@ -35,8 +35,8 @@ impl<N: Notation> Shelf<N> {
         automaton.longest(&rows).ok_or(Refusal::NoMatch)
     }
 
-    // Marks each symbol of a line that some stretch that reads covers by 1, and each other by 0, at the front of the
-    // buffer, and answers how many are 1.
+    /// Marks each symbol of a line that some stretch that reads covers by 1, and each other by 0, at the front of the
+    /// buffer, and answers how many are 1.
     pub fn mark(
         &self,
         place: usize,

@@ -15,9 +15,9 @@ use sheet::Sheet;
 use splitting::best_trail;
 
 impl<N: Notation> Shelf<N> {
-    // Splits the stretch from left up to right of a line, by the pattern at a place: writes its best trail under the ranking at the
-    // front of the trail buffer, and the parts along this trail on the sheet. The trail buffer must be at least as long as the stretch,
-    // and the work buffer must have room for at least 128 measures; what that holds does not matter, before or after.
+    /// Splits the stretch from left up to right of a line, by the pattern at a place: writes its best trail under the ranking at the
+    /// front of the trail buffer, and the parts along this trail on the sheet. The trail buffer must be at least as long as the stretch,
+    /// and the work buffer must have room for at least 128 measures; what that holds does not matter, before or after.
     pub fn split<R: Ranking>(
         &self,
         place: usize,
@@ -53,8 +53,8 @@ impl<N: Notation> Shelf<N> {
     }
 }
 
-// The part of a tag, of the line itself; nothing where the tag has no part or is not 1 to 8. An entry that is no stretch of the line is
-// refused.
+/// The part of a tag, of the line itself; nothing where the tag has no part or is not 1 to 8. An entry that is no stretch of the line is
+/// refused.
 pub fn part_of_line<'a, S>(
     sheet: &Sheet,
     tag: usize,

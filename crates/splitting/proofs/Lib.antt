@@ -3,6 +3,7 @@ mod Choosing
 mod Following
 mod Fronts
 pub mod Lengths
+mod Lowest
 mod Nearness
 mod Offering
 mod Optimal

@@ -14,7 +14,8 @@ use Rattle.ranking.specs.Laws.{Lawful}
 use Rattle.ranking.specs.Ranks.{rank_of}
 use Rattle.splitting.specs.Choice.{Pick}
 use Rattle.splitting.specs.Steps.{back_from, rank_back}
-use Rattle.splitting.specs.Trails.{Trail, sets_along, Over, Written, test_numbers}
+use Rattle.automaton.specs.Reads.{tests_of}
+use Rattle.splitting.specs.Trails.{Trail, sets_along, Over, Written}
 use Rattle.splitting.proofs.Fronts.{may_stand, Ends, Full, Rules, same, Cells}
 use Rattle.splitting.proofs.Nearness.{back_length}
 use Rattle.splitting.proofs.Optimal.{best_full, no_full}
@@ -43,7 +44,7 @@ module _ {S : Type 0} {a : Automaton} {admits : ℕ → S → Bool} {codes : ℕ
   module _ {M : Type 0} {start : M} {stepped : M → ℕ → M} {compared : M → M → Ordering} {tags : List ℕ} where
     written : (was w is : List ℕ) → Full a (may_stand admits codes stretch) (length stretch) w
         → ((v : List ℕ) → Full a (may_stand admits codes stretch) (length stretch) v → Rules compared (rank_back start stepped tags) w v)
-        → take (length stretch) is ≡ test_numbers (reverse w) → drop (length stretch) is ≡ drop (length stretch) was
+        → take (length stretch) is ≡ tests_of (reverse w) → drop (length stretch) is ≡ drop (length stretch) was
         → Written start stepped compared a admits codes tags stretch was is
     written was w is full best front rest = record {
       positions = reverse w;
@@ -68,12 +69,12 @@ module _ {S : Type 0} {a : Automaton} {admits : ℕ → S → Bool} {codes : ℕ
       missing none = none_full (no_full law tags sets a (may_stand admits codes stretch) (length stretch) live last back (omega arith) cells none)
 
       pub found : (q : ℕ) → Pick compared (λ p. get_or last p start) (In (bit_and live a.last)) q
-          → (was front : List ℕ) → length stretch ≤ 160 → length stretch ≤ length was → front ≡ test_numbers (reverse (back_from back (length (take (length stretch) was)) q))
+          → (was front : List ℕ) → length stretch ≤ 160 → length stretch ≤ length was → front ≡ tests_of (reverse (back_from back (length (take (length stretch) was)) q))
           → Written start stepped compared a admits codes tags stretch was (front ++ drop (length stretch) was)
       found q pick was front short room e =
           let k = best_full law tags sets a (may_stand admits codes stretch) (length stretch) live last back (omega arith) short cells q pick in
           let n : length (take (length stretch) was) ≡ length stretch = length-take-le (length stretch) was room in
-          let e' : front ≡ test_numbers (reverse (back_from back (length stretch) q)) = e ∙ ap (λ m. test_numbers (reverse (back_from back m q))) n in
+          let e' : front ≡ tests_of (reverse (back_from back (length stretch) q)) = e ∙ ap (λ m. tests_of (reverse (back_from back m q))) n in
           let l : length front ≡ length stretch =
           ap length e' ∙ length-map (reverse (back_from back (length stretch) q)) (λ p. p + 1) ∙ length-reverse (back_from back (length stretch) q) ∙ back_length back (length stretch) q in
           written was (back_from back (length stretch) q) (front ++ drop (length stretch) was) k.0 k.1

@@ -1,7 +1,7 @@
 -- What the functions of the sweep do, where m has the measure of each position at the symbol before.
-use Rattle.std.specs.Prelude.{◌≡◌, ℕ, zero, suc, ◌<◌, cond, List, [], ◌∷◌, slice_index, slice_index_or}
+use Rattle.std.specs.Prelude.{◌≡◌, ℕ, zero, suc, ◌<◌, true, cond, List, [], ◌∷◌, slice_index, slice_index_or}
 use Rattle.std.specs.declared.cmp.Ordering.{Ordering}
-use Rattle.std.specs.Ordering.{is_gt}
+use Rattle.std.specs.Ordering.{is_le, is_gt}
 use Rattle.automaton.specs.Bit.{In}
 use Rattle.splitting.specs.Choice.{Pick}
 
@@ -15,6 +15,11 @@ pub record Offered {M : Type 0} (compared : M → M → Ordering) (m : ℕ → M
   pub others : (q : ℕ) → (In onto q → ⊥) → slice_index after q ≡ slice_index before q
   pub fresh : (q : ℕ) → In onto q → (In reached q → ⊥) → slice_index after q ≡ p
   pub contested : (q : ℕ) → In onto q → In reached q → slice_index after q ≡ cond (is_gt (compared (m p) (m (slice_index before q)))) p (slice_index before q)
+
+-- the live position r has the lowest measure of those that stand before the positions of a set, or a lower one
+pub record LowestBefore {M : Type 0} (compared : M → M → Ordering) (m : ℕ → M) (live set : ℕ) (previous : List ℕ) (r : ℕ) : Type 0 where
+  pub stands : In live r
+  pub lowest : (q : ℕ) → In set q → is_le (compared (m r) (m (slice_index previous q))) ≡ true
 
 -- the positions of a row that may follow a live one are reached, and no others, and the one before each is picked among the live ones
 -- that it may follow; what stands before the others is a position too

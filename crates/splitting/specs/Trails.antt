@@ -1,10 +1,11 @@
 -- The trails of a stretch of symbols, and which of them is best. A trail is a list of positions of an automaton, one for each symbol,
--- from the first symbol to the last.
-use Rattle.std.specs.Prelude.{◌≡◌, ℕ, ◌+◌, ◌<◌, ◌≤◌, Bool, true, List, [], ◌∷◌, map, length, take, drop, Ok, Err, Result, slice_index}
+-- from the first symbol to the last. (Here all is said by positions. Crate `shelf` says trails and what they admit by words of tests
+-- alone, and proves that the two come to the same.)
+use Rattle.std.specs.Prelude.{◌≡◌, ℕ, ◌<◌, ◌≤◌, Bool, true, List, [], ◌∷◌, map, length, take, drop, Ok, Err, Result, slice_index}
 use Rattle.std.specs.declared.cmp.Ordering.TheVariants.{Less, Equal}
 use Rattle.std.specs.declared.cmp.Ordering.{Ordering}
 use Rattle.automaton.specs.declared.machine.Automaton.{Automaton}
-use Rattle.automaton.specs.Reads.{Walk}
+use Rattle.automaton.specs.Reads.{Walk, tests_of}
 use Rattle.ranking.specs.Ranks.{rank_of}
 use Rattle.splitting.specs.declared.Unsplit.{Unsplit}
 use Rattle.splitting.specs.declared.Unsplit.TheVariants.{NoRoom, NoTrail}
@@ -45,10 +46,6 @@ pub record Best {M : Type 0} (IsTrail : List ℕ → Type 0) (rank : List ℕ �
   pub trail : IsTrail t
   pub over : (u : List ℕ) → IsTrail u → Over rank compared t u
 
--- the numbers of the tests of some positions: the test p + 1 has the position p
-abbrev pub test_numbers : List ℕ → List ℕ
-test_numbers t = map (λ q. q + 1) t
-
 -- there is room for the answer: the stretch has at most 160 symbols, the bytes for the trail are as many, and the work has 128 measures
 abbrev pub Room : ℕ → ℕ → ℕ → Type 0
 Room symbols bytes measures = (symbols ≤ 160) × (symbols ≤ bytes) × (128 ≤ measures)
@@ -58,7 +55,7 @@ module _ {S M : Type 0} (start : M) (stepped : M → ℕ → M) (compared : M �
   pub record Written (before after : List ℕ) : Type 0 where
     pub positions : List ℕ
     pub best : Best (Trail a admits codes stretch) (λ t. rank_of start stepped (sets_along tags t)) compared positions
-    pub front : take (length stretch) after ≡ test_numbers positions
+    pub front : take (length stretch) after ≡ tests_of positions
     pub rest : drop (length stretch) after ≡ drop (length stretch) before
 
   -- what is answered: that there is no room, or else that there is no trail, or else the best one is written

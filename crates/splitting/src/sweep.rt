@@ -1,11 +1,11 @@
 // One sweep over the symbols of a stretch. For each position that some front of a trail has reached, the sweep keeps the measure of
 // the best front that ends there, and the position that this front had at the symbol before.
-ghost use Rattle.std.specs.Prelude.{◌≡◌, ℕ, ◌+◌, ◌<◌, ◌≤◌, map, reverse, length, bit_and, MatchOption, slice_index};
+ghost use Rattle.std.specs.Prelude.{◌≡◌, ℕ, ◌+◌, ◌<◌, ◌≤◌, map, reverse, length, bit_and, bit_or, MatchOption, slice_index};
 ghost use Rattle.std.specs.Ordering.{is_gt};
 ghost use Rattle.automaton.specs.Bit.{In};
 ghost use Rattle.ranking.specs.Laws.{Near};
 ghost use Rattle.splitting.specs.Choice.{Pick};
-ghost use Rattle.splitting.specs.Steps.{measure_of, Offered, Preceded, Stepped, Low, back_from, rank_back};
+ghost use Rattle.splitting.specs.Steps.{measure_of, Offered, LowestBefore, Preceded, Stepped, Low, back_from, rank_back};
 
 use automaton::{Automaton, MOST_SYMBOLS, POSITIONS, Positions};
 use ranking::Ranking;
@@ -95,6 +95,31 @@ impl<'a, R: Ranking> Fronts<'a, R> {
         }
     }
 
+    // Offers p as `offer` does, where no measure of those that stand before a position that is reached is lower than that of `lowest`,
+    // and answers the one that is so afterwards. A position that ranks no higher than the lowest takes the place of none, so it is not
+    // compared with each.
+    fn offer_next(
+        &self,
+        p: usize,
+        onto: u64,
+        reached: u64,
+        lowest: usize,
+        previous: &mut [u8; POSITIONS],
+    ) -> usize
+        requires live_p { In self.now.live p }
+        requires live_reached { (q : ℕ) → In reached q → In self.now.live (slice_index previous.old q) }
+        requires lowest { (reached ≡ 0 → ⊥) → LowestBefore (R.compared self.now.ranking.now) (measure_of (R.start self.now.ranking.now) self.now.measures.now) self.now.live reached previous.old lowest }
+        ensures offered { Offered (R.compared self.now.ranking.now) (measure_of (R.start self.now.ranking.now) self.now.measures.now) p onto reached previous.old previous.new }
+        ensures lowest { LowestBefore (R.compared self.now.ranking.now) (measure_of (R.start self.now.ranking.now) self.now.measures.now) self.now.live (bit_or reached onto) previous.new result }
+    {
+        if reached != 0 && self.is_higher(p, lowest) {
+            self.offer(p, onto, reached, previous);
+            return lowest;
+        }
+        self.offer(p, onto & !reached, reached, previous);
+        p
+    }
+
     // The positions of a row that may follow a live one, and for each the live one before it whose measure is highest, the smallest
     // among equals.
     fn follow_on(&self, automaton: &Automaton, row: u64) -> Reached
@@ -102,9 +127,10 @@ impl<'a, R: Ranking> Fronts<'a, R> {
     {
         let mut positions = 0;
         let mut previous = [0; POSITIONS];
+        let mut lowest = 0;
         for p in Positions::of(self.live) {
             let onto = automaton.follow[p] & row;
-            self.offer(p, onto, positions, &mut previous);
+            lowest = self.offer_next(p, onto, positions, lowest, &mut previous);
             positions |= onto;
         }
         Reached {

@@ -2,6 +2,7 @@
 use Rattle.std.specs.Prelude.{◌≡◌, ℕ, ◌+◌, Bool, true, false, cond, List, [], ◌∷◌, ◌++◌, length, take, ◌==◌}
 use Rattle.text.specs.declared.line.LineBuffer.{LineBuffer}
 
+-- what is held of a line
 abbrev pub held : {most : ℕ} → LineBuffer most → List ℕ
 held b = b.bytes.items
 

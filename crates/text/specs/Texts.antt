@@ -2,6 +2,7 @@
 use Rattle.std.specs.Prelude.{◌≡◌, ℕ, List, ◌++◌, take}
 use Rattle.text.specs.declared.buffer.Text.{Text}
 
+-- the bytes that a text holds
 abbrev pub written : Text → List ℕ
 written t = t.bytes.items
 

@@ -1,4 +1,4 @@
-// Text in a fixed room: what is written, and the front of a line that is read.
+//! Text in a fixed room: what is written, and the front of a line that is read.
 #![tactic(auto)]
 
 mod appending;

@@ -5,6 +5,7 @@ ghost use Rattle.arrayvec.specs.ArrayVec.{array_vec_len};
 use crate::appending::append;
 use arrayvec::ArrayVec;
 
+/// The front of a line: as many of its bytes as are wanted.
 // Beside `Text`, which it is like but for the room: what they share is `ArrayVec` and `append`, and one generic type would hand each the
 // other's methods.
 #[derive(Drop)]
@@ -24,6 +25,7 @@ impl<const MOST: usize> LineBuffer<MOST> {
     ghost use Rattle.std.specs.Prelude.{[], ◌++◌, length, take, is_some, MatchOption};
     ghost use Rattle.text.specs.Lines.{held, front, through, ends, CutsAnywhere};
 
+    /// Nothing is held.
     pub fn new() -> LineBuffer<MOST>
         ensures { held result ≡ [] }
     {
@@ -32,21 +34,22 @@ impl<const MOST: usize> LineBuffer<MOST> {
         }
     }
 
+    /// Takes all that is held away.
     pub fn clear(&mut self)
         ensures { held self.new ≡ [] }
     {
         self.bytes.clear();
     }
 
-    // What is held of the line.
+    /// What is held of the line.
     pub fn bytes(&self) -> &[u8]
         ensures { result.now ≡ held self.now }
     {
         self.bytes.as_slice()
     }
 
-    // Takes the bytes before the chunk's first line feed. Where the line ends there, answers how many bytes of the chunk
-    // are done with; else the whole chunk is. Where the input was cut into chunks makes no difference.
+    /// Takes the bytes before the chunk's first line feed. Where the line ends there, answers how many bytes of the chunk
+    /// are done with; else the whole chunk is. Where the input was cut into chunks makes no difference.
     pub fn take_in(&mut self, chunk: &[u8]) -> Option<usize>
         ensures kept { held self.new ≡ take MOST (held self.old ++ front chunk.now) }
         ensures count { MatchOption result (through chunk.now ≡ length chunk.now) (λ n. n ≡ through chunk.now) }

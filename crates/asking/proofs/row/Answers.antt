@@ -1,24 +1,11 @@
-use Rattle.std.proofs.Common.{◌≡◌, ℕ, ◌*◌, ◌%◌, ◌^◌, ◌<◌, Bool, List, [], ◌∷◌, ◌++◌, min, length, take, sym, ap, ◌∙◌, subst, arith, rules, append_assoc, length-append, length-take, length-take-le}
+use Rattle.std.proofs.Common.{◌≡◌, ℕ, ◌*◌, ◌%◌, ◌^◌, Bool, [], ◌∷◌, min, length, take, sym, ap, ◌∙◌, subst, rules, length-take-le}
 use lib.Bits.{bit_or}
 use mir.Val.{bool_byte}
-use Rattle.std.specs.List.{push}
-use Rattle.asking.proofs.Rowing.{RowOfCodes, no_codes, code_before, first_codes}
+use Rattle.asking.proofs.Rowing.{RowOfCodes, no_codes, code_before, first_codes, fewer, taken, none_left}
 use Rattle.asking.proofs.row.Goals as goal
 
 pub loop-code-init : goal.loop-code-init
 loop-code-init g c = ([], search rules, no_codes (λ code. g.A.Alphabet.meaning c.args.alphabet.now code c.args.symbol.now))
-
--- where a code is left, fewer than 64 are done
-fewer : (rest left done codes : List ℕ) (code : ℕ) → rest ≡ push left code → rest ++ done ≡ take (min 64 (length codes)) codes → length done < 64
-fewer rest left done codes code e s = omega (arith, ap length e, length-append left (code ∷ []), ap length s, length-append rest done, length-take (min 64 (length codes)) codes)
-
--- a code that is taken from the left goes before those that are done
-taken : (rest left done whole : List ℕ) (code : ℕ) → rest ≡ push left code → rest ++ done ≡ whole → left ++ (code ∷ done) ≡ whole
-taken rest left done whole code e s = sym (append_assoc left (code ∷ []) done) ∙ ap (λ r. r ++ done) (sym e) ∙ s
-
-none_left : (rest done whole : List ℕ) → length rest ≡ 0 → rest ++ done ≡ whole → done ≡ whole
-none_left [] done whole e s = s
-none_left (x ∷ rest) done whole e s = absurd (omega arith)
 
 pub loop-code-preserved : goal.loop-code-preserved
 loop-code-preserved g c =

@@ -1,4 +1,4 @@
-ghost use Rattle.std.specs.Prelude.{◌≡◌, ◌≤◌, true, false, [], ◌∷◌, ◌++◌, length};
+ghost use Rattle.std.specs.Prelude.{◌≡◌, ◌<◌, ◌≤◌, true, false, [], ◌∷◌, ◌++◌, length, take, MatchOption};
 ghost use Rattle.automaton.specs.RowList.{rows_of};
 
 use super::Rows;
@@ -14,6 +14,17 @@ impl Rows {
             list: [0; MOST_SYMBOLS],
             len: 0,
         }
+    }
+
+    /// The first so many rows of a list; `None` where that is more than 160.
+    #[tactic(auto, unfolding(crate::specs::RowList::rows_of))]
+    pub fn of(list: [u64; MOST_SYMBOLS], len: usize) -> Option<Rows>
+        ensures { MatchOption result (160 < len) (λ rows. (len ≤ 160) × (rows_of rows ≡ take len list)) }
+    {
+        if len > MOST_SYMBOLS {
+            return None;
+        }
+        Some(Rows { list, len })
     }
 
     // A bool and no error, which would have one value and say no more.

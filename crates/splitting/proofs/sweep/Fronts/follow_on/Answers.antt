@@ -1,4 +1,4 @@
-use Rattle.std.proofs.Common.{◌≡◌, get_or}
+use Rattle.std.proofs.Common.{◌≡◌, get_or, refl}
 use Rattle.splitting.proofs.BitLoops.{all_left, left_next}
 use Rattle.splitting.proofs.Following.{none_done, offered, all_tried}
 use Rattle.splitting.proofs.Nearness.{live_near}
@@ -12,6 +12,7 @@ loop-p-init g c =
     record {
       left = all_left whole;
       reached = none_done (g.R.Ranking.compared f.ranking.now) (λ p. get_or f.measures.now p (g.R.Ranking.start f.ranking.now)) c.args.automaton.now.follow f.live c.args.row _ _ whole (low_row 64);
+      lowest = λ n. absurd (n refl);
     }
 
 pub loop-p-preserved : goal.loop-p-preserved
@@ -22,7 +23,8 @@ loop-p-preserved g c =
     let near = live_near (g.R.Ranking.start f.ranking.now) (g.R.Ranking.stepped f.ranking.now) f.tags.now f.sets f.back.now f.symbols f.live f.measures.now f.short f.measured in record {
       left = left_next inv.left next;
       reached = offered (g.R.Ranking.compared f.ranking.now) (λ p. get_or f.measures.now p (g.R.Ranking.start f.ranking.now)) c.args.automaton.now.follow f.live c.args.row
-          (g.met.R.Ranking.lawful f.ranking.now) near c.loop-p.positions c.loop-p.previous c.offer.new.previous inv.left next inv.reached c.offer.ensures;
+          (g.met.R.Ranking.lawful f.ranking.now) near c.loop-p.positions c.loop-p.previous c.offer_next-lowest.new.previous inv.left next inv.reached c.offer_next-lowest.ensures.offered;
+      lowest = λ _. c.offer_next-lowest.ensures.lowest;
     }
 
 pub returns : goal.returns

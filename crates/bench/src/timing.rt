@@ -10,7 +10,7 @@ const ROUNDS: usize = 40;
 // The nanoseconds that one run takes, in the best of some rounds. A round takes at least so many nanoseconds: one that is shorter does
 // not count, and the next has twice as many runs. A run is a report on the line by the pattern at a place, and answers a number from it
 // (0 where it is refused), so that no run can be left out.
-pub fn time<F: FnMut(usize) -> usize>(
+pub(crate) fn time<F: FnMut(usize) -> usize>(
     rt: &HostRuntime,
     least: u128,
     mut report: F,

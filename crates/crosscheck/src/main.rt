@@ -2,7 +2,7 @@
 // compared with answers that were worked out by other means.
 #![tactic(auto)]
 
-use line_input::read_line;
+use line_input::{Ending, read_line};
 use std::io;
 use std::io::{BufReader, BufWriter, Write};
 use text::line::LineBuffer;
@@ -28,13 +28,16 @@ fn main(rt: HostRuntime) -> io::Result<()> {
     let mut desk = Desk::new(rt.alloc());
     // A loop has to be shown to end, so this one has a bound, which no input reaches.
     for _ in 0..u64::MAX {
-        if !read_line(&mut input, &mut output, &mut line)? {
+        let Some(ending) = read_line(&mut input, &mut output, &mut line)? else {
             break;
-        }
+        };
         match desk.answer(line.bytes(), &mut output) {
             Ok(()) => {}
             Err(Failure::NoCase) => output.write_all(b"unknown\n")?,
             Err(Failure::Io(error)) => return Err(error),
+        }
+        if ending == Ending::EndOfInput {
+            break;
         }
     }
     output.flush()

@@ -6,11 +6,16 @@ use Rattle.std.proofs.Math.Seq.{take-append_seam, drop-append_seam, drop-length}
 use Rattle.std.proofs.KnownBytes.{Consumes-trans}
 use Rattle.std.proofs.BufReadLemmas.{Consumes_shown}
 use Rattle.std.specs.declared.option.Option.{Option}
+use Rattle.std.specs.Bool.{then_some}
+use Rattle.std.specs.Option.{is_some}
 use Rattle.std.specs.Io.{StartsWith}
 use Rattle.std.specs.Io.BufRead.{DropsConsumable}
 use Rattle.std.specs.Io.KnownBytes.{Keeps, Consumes, IsAtEnd, prepend_known}
 use Rattle.text.proofs.Takes.{take_twice}
 use Rattle.text.specs.Lines.{front, through, ends, CutsAnywhere}
+use Rattle.line_input.specs.declared.Ending.{Ending}
+use Rattle.line_input.specs.declared.Ending.TheVariants.{EndOfInput}
+use Rattle.line_input.specs.Inputs.{EndedBy}
 
 -- the bytes up to and with the first line feed, or all
 pub record Piece (s : List ℕ) : Type 0 where
@@ -116,21 +121,32 @@ takes most a b c shown before after first end kept drops holds =
       λ zero. end (none_taken shown zero),
     )
 
--- what a line that was read is to the input before
-abbrev pub Reads : ℕ → Option (List ℕ) → Option (List ℕ) → List ℕ → Bool → Type 0
-Reads most a c after there =
+-- what a line that was read is to the input before, and whether that had a line feed
+abbrev pub Reads : ℕ → Option (List ℕ) → Option (List ℕ) → List ℕ → Bool → Bool → Type 0
+Reads most a c after there feed =
     IfSome a (λ xs. after ≡ take most (front xs)) × IfSome a (λ xs. there ≡ nat_lt 0 (length xs)) × IfSome a (λ xs. c ≡ Some (drop (through xs) xs))
+    × IfSome a (λ xs. ends xs ≡ feed)
+
+-- what no line feed ended, the input's end ended, or there was nothing
+pub no_feed : (there : Bool) (a : Option (List ℕ)) → IfSome a (λ xs. ends xs ≡ false) → IfSome a (λ xs. EndedBy (then_some there EndOfInput) xs)
+no_feed there None e = tt
+no_feed true (Some xs) e = e
+no_feed false (Some xs) e = e
+
+pub is_there : (there : Bool) (ending : Ending) → is_some (then_some there ending) ≡ there
+is_there true ending = refl
+is_there false ending = refl
 
 -- chunks with no line feed, and then one that has it
 pub line_ended : (most : ℕ) (a b c : Option (List ℕ)) (done chunk after : List ℕ) → CutsAnywhere most → Consumes a b done → Consumes b c chunk
-    → ends done ≡ false → ends chunk ≡ true → through chunk ≡ length chunk → after ≡ take most (take most (front done) ++ front chunk) → Reads most a c after true
+    → ends done ≡ false → ends chunk ≡ true → through chunk ≡ length chunk → after ≡ take most (take most (front done) ++ front chunk) → Reads most a c after true true
 line_ended most a b c done chunk after cuts p q unended ended all holds = at a c (Consumes-trans a b c done chunk p q)
   where
     cut : (take most (take most (front done) ++ front chunk) ≡ take most (front (done ++ chunk))) × (length done + through chunk ≡ through (done ++ chunk)) × (ends chunk ≡ ends (done ++ chunk))
     cut = cuts [] done chunk unended
 
-    at : (a c : Option (List ℕ)) → Consumes a c (done ++ chunk) → Reads most a c after true
-    at None c h = (tt, tt, tt)
+    at : (a c : Option (List ℕ)) → Consumes a c (done ++ chunk) → Reads most a c after true true
+    at None c h = (tt, tt, tt, tt)
     at (Some x) None h = absurd h
     at (Some x) (Some z) h =
         let last : ends (done ++ chunk) ≡ true = sym cut.2 ∙ ended in
@@ -143,12 +159,13 @@ line_ended most a b c done chunk after cuts p q unended ended all holds = at a c
           holds ∙ cut.0 ∙ ap (take most) (sym more.0 ∙ ap front (sym h)),
           sym (lt-ltb 0 (length x) some),
           ap Some (sym (ap (λ l. drop (through l) l) h ∙ ap (λ k. drop k (done ++ chunk ++ z)) long ∙ drop-append_seam (done ++ chunk) z)),
+          ap ends h ∙ more.1,
         )
 
 -- chunks with no line feed, and then the input's end
 pub input_ended : (most : ℕ) (a b c : Option (List ℕ)) (done chunk after : List ℕ) → Consumes a b done → Consumes b c chunk → IsAtEnd b
-    → ends done ≡ false → length chunk ≡ 0 → after ≡ take most (take most (front done) ++ front chunk) → Reads most a c after (nat_lt 0 (length done))
-input_ended most None b c done chunk after p q end unended none holds = (tt, tt, tt)
+    → ends done ≡ false → length chunk ≡ 0 → after ≡ take most (take most (front done) ++ front chunk) → Reads most a c after (nat_lt 0 (length done)) false
+input_ended most None b c done chunk after p q end unended none holds = (tt, tt, tt, tt)
 input_ended most (Some x) None c done chunk after p q end unended none holds = absurd p
 input_ended most (Some x) (Some y) None done chunk after p q end unended none holds = absurd q
 input_ended most (Some x) (Some y) (Some z) done (k ∷ ks) after p q end unended none holds = absurd (omega (arith, none))
@@ -158,4 +175,5 @@ input_ended most (Some x) (Some y) (Some z) done [] after p q end unended none h
       holds ∙ take_twice most (front done) [] ∙ ap (take most) (append-nil (front done) ∙ ap front (sym whole)),
       ap (λ l. nat_lt 0 (length l)) (sym whole),
       ap Some (sym q ∙ end ∙ sym (ap (λ k. drop k x) long ∙ drop-length x)),
+      ap ends whole ∙ unended,
     )

@@ -1,6 +1,14 @@
 -- What reading does to an input, to an output, and to what is held of a line.
-use Rattle.std.specs.Prelude.{◌≡◌, ℕ, Bool, true, List, take, drop, Ok, Err, Result}
-use Rattle.text.specs.Lines.{front, through}
+use Rattle.std.specs.Prelude.{◌≡◌, ℕ, true, false, List, take, drop, None, Some, Ok, Err, Option, Result}
+use Rattle.text.specs.Lines.{front, through, ends}
+use Rattle.line_input.specs.declared.Ending.{Ending}
+use Rattle.line_input.specs.declared.Ending.TheVariants.{LineFeed, EndOfInput}
+
+-- what ended the first line of these bytes, if there was one
+abbrev pub EndedBy : Option Ending → List ℕ → Type 0
+EndedBy None xs = ends xs ≡ false
+EndedBy (Some LineFeed) xs = ends xs ≡ true
+EndedBy (Some EndOfInput) xs = ends xs ≡ false
 
 -- an input and an output are left as they were, without an error
 abbrev pub LeavesBoth : {I O V E : Type 0} → I → I → O → O → Result V E → Type 0
@@ -8,6 +16,6 @@ LeavesBoth before after was is (Ok done) = (after ≡ before) × (is ≡ was)
 LeavesBoth before after was is (Err e) = ⊥
 
 -- the first line of the bytes before is read, without an error, and with its line feed it alone is gone from them
-abbrev pub ReadsFirst : {E : Type 0} → ℕ → List ℕ → List ℕ → List ℕ → Result Bool E → Type 0
-ReadsFirst most before after line (Ok there) = (there ≡ true) × (line ≡ take most (front before)) × (after ≡ drop (through before) before)
+abbrev pub ReadsFirst : {E : Type 0} → ℕ → List ℕ → List ℕ → List ℕ → Result (Option Ending) E → Type 0
+ReadsFirst most before after line (Ok ending) = (ending ≡ Some LineFeed) × (line ≡ take most (front before)) × (after ≡ drop (through before) before)
 ReadsFirst most before after line (Err e) = ⊥

@@ -1,12 +1,12 @@
 //! Lines of an input, one after another.
 #![tactic(auto)]
 
-ghost use Rattle.std.specs.Prelude.{◌≡◌, ◌⊎◌, true, false, nat_lt, length, [], ◌++◌, take, drop, Some, IfSome, IfOk, OnOk};
+ghost use Rattle.std.specs.Prelude.{◌≡◌, ◌⊎◌, true, false, nat_lt, length, [], ◌++◌, take, drop, None, Some, is_some, IfSome, IfOk, OnOk};
 ghost use Rattle.std.specs.Io.Buffered.{reader_buffer, reader_inner, reader_remaining, writer_buffer, writer_contents};
 ghost use Rattle.std.specs.Io.BufRead.{DropsConsumable};
 ghost use Rattle.std.specs.Io.KnownBytes.{Keeps, IsAtEnd};
 ghost use Rattle.text.specs.Lines.{held, front, through, ends, CutsAnywhere};
-ghost use Rattle.line_input.specs.Inputs.{LeavesBoth, ReadsFirst};
+ghost use Rattle.line_input.specs.Inputs.{EndedBy, LeavesBoth, ReadsFirst};
 
 use std::io;
 use std::io::{BufRead, BufReader, BufWriter, Error, ErrorKind, Read, Write};
@@ -15,20 +15,30 @@ use text::line::LineBuffer;
 #[cfg(test)]
 mod tests;
 
-/// Reads the front of the next line, as many of its bytes as the line buffer holds, and says whether there is a line. A last line may lack
-/// its line feed. Before input is waited for, the output is written out, so that what was asked last is answered.
+/// What ended a line.
+#[derive(Clone, Copy, Debug, PartialEq, Eq)]
+pub enum Ending {
+    /// A line feed. Another line may follow.
+    LineFeed,
+    /// The end of the input: it was the last line, and lacks its line feed. The input need not be asked again.
+    EndOfInput,
+}
+
+/// Reads the front of the next line, as many of its bytes as the line buffer holds, and says what ended it, or that there is no line. A last
+/// line may lack its line feed. Before input is waited for, the output is written out, so that what was asked last is answered.
 /// `kept`, `there` and `rest` speak of a reader that tells its contract which bytes it has left; the body can't know which do. The other clauses
 /// speak of any.
 pub fn read_line<const MOST: usize, R: Read, W: Write + Drop>(
     input: &mut BufReader<R>,
     output: &mut BufWriter<W>,
     line: &mut LineBuffer<MOST>,
-) -> io::Result<bool>
+) -> io::Result<Option<Ending>>
     ensures kept { OnOk result (IfSome (reader_remaining R.remaining input.old) (λ xs. held line.new ≡ take MOST (front xs))) }
-    ensures there { IfOk result (λ there. IfSome (reader_remaining R.remaining input.old) (λ xs. there ≡ nat_lt 0 (length xs))) }
+    ensures there { IfOk result (λ ending. IfSome (reader_remaining R.remaining input.old) (λ xs. is_some ending ≡ nat_lt 0 (length xs))) }
+    ensures ended { IfOk result (λ ending. IfSome (reader_remaining R.remaining input.old) (λ xs. EndedBy ending xs)) }
     ensures rest { OnOk result (IfSome (reader_remaining R.remaining input.old) (λ xs.
         reader_remaining R.remaining input.new ≡ Some (drop (through xs) xs))) }
-    ensures none { IfOk result (λ there. there ≡ false → held line.new ≡ []) }
+    ensures none { IfOk result (λ ending. ending ≡ None → held line.new ≡ []) }
     ensures at_hand { ends (reader_buffer input.old) ≡ true → ReadsFirst MOST (reader_buffer input.old) (reader_buffer input.new) (held line.new) result }
     ensures unwritten { ends (reader_buffer input.old) ≡ true → output.new ≡ output.old }
     ensures flushed { ends (reader_buffer input.old) ≡ false → OnOk result (writer_buffer output.new ≡ []) }
@@ -41,10 +51,10 @@ pub fn read_line<const MOST: usize, R: Read, W: Write + Drop>(
         wait_for_input(input, output)?;
         let (n, ended) = take_chunk(input, line);
         if ended {
-            return Ok(true);
+            return Ok(Some(Ending::LineFeed));
         }
         if n == 0 {
-            return Ok(there);
+            return Ok(there.then_some(Ending::EndOfInput));
         }
         there = true;
     }

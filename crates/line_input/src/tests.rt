@@ -1,5 +1,5 @@
 // Lines of inputs that come in pieces.
-use crate::read_line;
+use crate::{Ending, read_line};
 use std::alloc::Global;
 use std::io;
 use std::io::{BufReader, BufWriter, Error, ErrorKind, Read, Write};
@@ -45,8 +45,15 @@ impl Write for Counter {
     }
 }
 
-// Whether the input has these lines and no more, and the output was written out each time before the input was asked.
-fn has_lines(alloc: Global, whole: &[u8], most: usize, lines: &[&[u8]]) -> io::Result<bool> {
+// Whether the input has these lines and no more, the last of which ends so, and the output was written out each time before the input was
+// asked.
+fn has_lines(
+    alloc: Global,
+    whole: &[u8],
+    most: usize,
+    lines: &[&[u8]],
+    last: Ending,
+) -> io::Result<bool> {
     let pieces = Pieces {
         left: whole,
         most,
@@ -56,37 +63,49 @@ fn has_lines(alloc: Global, whole: &[u8], most: usize, lines: &[&[u8]]) -> io::R
     let mut input = BufReader::new(alloc, pieces)?;
     let mut output = BufWriter::new(alloc, Counter { flushes: 0 })?;
     let mut line: LineBuffer<201> = LineBuffer::new();
-    for due in lines {
+    for (k, due) in lines.iter().enumerate() {
         output.write_all(b"?")?;
-        let there = read_line(&mut input, &mut output, &mut line)?;
-        if !there || line.bytes() != *due {
+        let ending = read_line(&mut input, &mut output, &mut line)?;
+        let wanted = if k + 1 < lines.len() {
+            Ending::LineFeed
+        } else {
+            last
+        };
+        if ending != Some(wanted) || line.bytes() != *due {
             return Ok(false);
         }
         if input.get_ref().asked != output.get_ref().flushes {
             return Ok(false);
         }
     }
-    let there = read_line(&mut input, &mut output, &mut line)?;
-    Ok(!there && line.bytes().is_empty() && output.buffer().is_empty())
+    let ending = read_line(&mut input, &mut output, &mut line)?;
+    Ok(ending == None && line.bytes().is_empty() && output.buffer().is_empty())
 }
 
 // The same whether the input comes byte by byte, in threes or as a whole.
-fn always_has_lines(alloc: Global, whole: &[u8], lines: &[&[u8]]) -> io::Result<bool> {
+fn always_has_lines(
+    alloc: Global,
+    whole: &[u8],
+    lines: &[&[u8]],
+    last: Ending,
+) -> io::Result<bool> {
     Ok(
-        has_lines(alloc, whole, 1, lines)?
-            && has_lines(alloc, whole, 3, lines)?
-            && has_lines(alloc, whole, 8192, lines)?,
+        has_lines(alloc, whole, 1, lines, last)?
+            && has_lines(alloc, whole, 3, lines, last)?
+            && has_lines(alloc, whole, 8192, lines, last)?,
     )
 }
 
 #[test]
 fn lines(rt: HostRuntime) -> Result<(), Fail> {
     let alloc = rt.alloc();
-    assert!(rt; always_has_lines(alloc, b"", &[])?);
-    assert!(rt; always_has_lines(alloc, b"\n", &[b""])?);
-    assert!(rt; always_has_lines(alloc, b"ab\ncd\n", &[b"ab", b"cd"])?);
-    assert!(rt; always_has_lines(alloc, b"ab\n\n\ncd", &[b"ab", b"", b"", b"cd"])?);
-    assert!(rt; always_has_lines(alloc, b"a\r\n", &[b"a\r"])?);
+    assert!(rt; always_has_lines(alloc, b"", &[], Ending::LineFeed)?);
+    assert!(rt; always_has_lines(alloc, b"\n", &[b""], Ending::LineFeed)?);
+    assert!(rt; always_has_lines(alloc, b"ab\ncd\n", &[b"ab", b"cd"], Ending::LineFeed)?);
+    let unended: &[&[u8]] = &[b"ab", b"", b"", b"cd"];
+    assert!(rt; always_has_lines(alloc, b"ab\n\n\ncd", unended, Ending::EndOfInput)?);
+    assert!(rt; always_has_lines(alloc, b"ab", &[b"ab"], Ending::EndOfInput)?);
+    assert!(rt; always_has_lines(alloc, b"a\r\n", &[b"a\r"], Ending::LineFeed)?);
     Ok(())
 }
 
@@ -95,7 +114,8 @@ fn long_line(rt: HostRuntime) -> Result<(), Fail> {
     let alloc = rt.alloc();
     let mut whole = [b'a'; 9000];
     whole[8900] = b'\n';
-    assert!(rt; always_has_lines(alloc, &whole, &[&[b'a'; 201], &[b'a'; 99]])?);
+    let lines: &[&[u8]] = &[&[b'a'; 201], &[b'a'; 99]];
+    assert!(rt; always_has_lines(alloc, &whole, lines, Ending::EndOfInput)?);
     Ok(())
 }
 
@@ -112,7 +132,7 @@ fn broken_input(rt: HostRuntime) -> Result<(), Fail> {
     let mut input = BufReader::new(alloc, pieces)?;
     let mut output = BufWriter::new(alloc, Counter { flushes: 0 })?;
     let mut line: LineBuffer<201> = LineBuffer::new();
-    assert!(rt; read_line(&mut input, &mut output, &mut line)?);
+    assert!(rt; read_line(&mut input, &mut output, &mut line)? == Some(Ending::LineFeed));
     assert!(rt; line.bytes() == b"ab".as_slice());
     match read_line(&mut input, &mut output, &mut line) {
         Ok(_) => assert!(rt; false),

@@ -1,7 +1,7 @@
 // Takes orders to a shelf of letters, one a line, and prints the answer to each.
 #![tactic(auto)]
 
-use line_input::read_line;
+use line_input::{Ending, read_line};
 use marking::marker::Marker;
 use orders::order::FRONT;
 use std::io;
@@ -17,11 +17,15 @@ fn main(rt: HostRuntime) -> io::Result<()> {
     let mut text = Text::new();
     // A loop has to be shown to end, so this one has a bound, which no input reaches.
     for _ in 0..u64::MAX {
-        if !read_line(&mut input, &mut output, &mut line)? {
+        let Some(ending) = read_line(&mut input, &mut output, &mut line)? else {
             break;
-        }
+        };
         marker.answer(line.bytes(), &mut text);
         output.write_all(text.bytes())?;
+        // After its end the input is not asked again: on a terminal it would have to be ended once more.
+        if ending == Ending::EndOfInput {
+            break;
+        }
     }
     output.flush()
 }

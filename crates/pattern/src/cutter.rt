@@ -1,5 +1,5 @@
 // Cuts a pattern's bytes into tokens.
-ghost use Rattle.std.specs.Prelude.{◌≡◌, ◌+◌, ◌<◌, ◌≤◌, length, drop};
+ghost use Rattle.std.specs.Prelude.{◌≡◌, ◌+◌, ◌<◌, ◌≤◌, [], length, drop};
 ghost use Rattle.pattern.specs.Tokens.{sign_kind, first_token, tokens, SameReading};
 
 use crate::fault::Misread;
@@ -49,15 +49,18 @@ fn first_token<N: Notation>(notation: &mut N, bytes: &[u8], at: usize) -> (Kind,
     }
 }
 
-// All tokens of a pattern that is not too long.
-pub(crate) fn cut<N: Notation>(notation: &mut N, bytes: &[u8]) -> ArrayVec<Token, MOST_BYTES>
-    requires { length bytes.now ≤ 120 }
-    ensures value { result.items ≡ tokens (N.Notation.reading notation.old) bytes.now }
-    ensures few { length result.items ≤ 120 }
+// All tokens of a pattern that is not too long. They are put into the caller's table, since to hand one out would copy it.
+pub(crate) fn cut<N: Notation>(
+    notation: &mut N,
+    bytes: &[u8],
+    list: &mut ArrayVec<Token, MOST_BYTES>,
+)
+    requires { (length bytes.now ≤ 120) × (list.old.items ≡ []) }
+    ensures value { list.new.items ≡ tokens (N.Notation.reading notation.old) bytes.now }
+    ensures few { length list.new.items ≤ 120 }
     ensures keeps_meaning { N.Alphabet.meaning notation.new ≡ N.Alphabet.meaning notation.old }
     ensures keeps_reading { SameReading (N.Notation.reading notation.new) (N.Notation.reading notation.old) }
 {
-    let mut list = ArrayVec::new();
     let mut at = 0;
     // Not a `for`: the notation says how many bytes each token takes, and a token keeps its offset.
     while at < bytes.len() {
@@ -65,5 +68,4 @@ pub(crate) fn cut<N: Notation>(notation: &mut N, bytes: &[u8]) -> ArrayVec<Token
         list.push(Token { kind, offset: at });
         at += used;
     }
-    list
 }

@@ -141,7 +141,8 @@ impl Reader<'_> {
         })
     }
 
-    // The `*`, `+` and `?` after a unit.
+    // The `*`, `+` and `?` after a unit. Always inline, since handing a part out byte by byte takes longer than to look for its sign.
+    #[inline(always)]
     fn repeats(&mut self, unit: Part) -> Result<Part, Fault>
         requires { unit.root < self.old.used }
         ensures { MatchResult result (λ k. Repeated self.old unit k self.new) (λ f. (e : Expr) → Means self.old.nodes unit e → Parses (source_of self.old) (Want.repeats e) self.old.pos (bad f)) }

@@ -13,6 +13,7 @@ use crate::fault::Fault;
 use crate::kept::Pattern;
 use crate::reader::parse;
 use alphabet::{Alphabet, Notation};
+use arrayvec::ArrayVec;
 use automaton::{Automaton, POSITIONS};
 
 impl Pattern {
@@ -27,7 +28,8 @@ impl Pattern {
         if bytes.len() > MOST_BYTES {
             return Err(Fault::TooLong);
         }
-        let tokens = cut(notation, bytes);
+        let mut tokens = ArrayVec::new();
+        cut(notation, bytes, &mut tokens);
         parse(&tokens, bytes.len())
     }
 

@@ -36,7 +36,8 @@ fn write_byte(out: &mut Text, byte: u8)
     if is_printable(byte) {
         out.byte(byte);
     } else {
-        out.text(b"\\x");
+        out.byte(b'\\');
+        out.byte(b'x');
         out.byte(hex_digit(byte / 16));
         out.byte(hex_digit(byte % 16));
     }

@@ -10,4 +10,5 @@ one b = b ∷ []
 pub returns-else-is_printable : goal.returns-else-is_printable
 returns-else-is_printable c =
     read_as (sym (cond-false _ _ _ (sym c.is_printable.ensures ∙ c.if-is_printable.false)))
-    (c.text.ensures then read_as (ap one c.hex_digit.ensures) c.byte-else-is_printable.ensures then read_as (ap one c.hex_digit-else-is_printable.ensures) c.byte-else-is_printable-2.ensures)
+    (c.byte-else-is_printable.ensures then c.byte-else-is_printable-2.ensures then read_as (ap one c.hex_digit.ensures) c.byte-else-is_printable-3.ensures
+    then read_as (ap one c.hex_digit-else-is_printable.ensures) c.byte-else-is_printable-4.ensures)

@@ -26,8 +26,8 @@ pub enum Ending {
 
 /// Reads the front of the next line, as many of its bytes as the line buffer holds, and says what ended it, or that there is no line. A last
 /// line may lack its line feed. Before input is waited for, the output is written out, so that what was asked last is answered.
-/// `kept`, `there` and `rest` speak of a reader that tells its contract which bytes it has left; the body can't know which do. The other clauses
-/// speak of any.
+/// `kept`, `there`, `ended` and `rest` speak of a reader that tells its contract which bytes it has left; the body can't know which do. The
+/// other clauses speak of any.
 pub fn read_line<const MOST: usize, R: Read, W: Write + Drop>(
     input: &mut BufReader<R>,
     output: &mut BufWriter<W>,

@@ -1,5 +1,5 @@
 -- The pieces in which a line is read.
-use Rattle.std.proofs.Common.{◌≡◌, ℕ, suc, ◌+◌, ◌<◌, ◌≤◌, Bool, true, false, true≢false, cond, eqb, nat_lt, List, [], ◌∷◌, ◌++◌, length, take, drop, None, Some, IfSome, refl, sym, ap, subst, ◌∙◌, arith, append-nil, length-append}
+use Rattle.std.proofs.Common.{◌≡◌, ◌↔◌, ℕ, suc, ◌+◌, ◌<◌, ◌≤◌, Bool, true, false, true≢false, cond, eqb, nat_lt, List, [], ◌∷◌, ◌++◌, length, take, drop, None, Some, IfSome, refl, sym, ap, subst, ◌∙◌, arith, append-nil, length-append}
 use Rattle.std.proofs.lemmas.Bool.{lt-ltb}
 use Rattle.std.proofs.lemmas.Grind.{common_steps}
 use Rattle.std.proofs.Math.Seq.{take-append_seam, drop-append_seam, drop-length}
@@ -14,8 +14,7 @@ use Rattle.std.specs.Io.KnownBytes.{Keeps, Consumes, IsAtEnd, prepend_known}
 use Rattle.text.proofs.Takes.{take_twice}
 use Rattle.text.specs.Lines.{front, through, ends, CutsAnywhere}
 use Rattle.line_input.specs.declared.Ending.{Ending}
-use Rattle.line_input.specs.declared.Ending.TheVariants.{EndOfInput}
-use Rattle.line_input.specs.Inputs.{EndedBy}
+use Rattle.line_input.specs.declared.Ending.TheVariants.{LineFeed, EndOfInput}
 
 -- the bytes up to and with the first line feed, or all
 pub record Piece (s : List ℕ) : Type 0 where
@@ -127,11 +126,21 @@ Reads most a c after there feed =
     IfSome a (λ xs. after ≡ take most (front xs)) × IfSome a (λ xs. there ≡ nat_lt 0 (length xs)) × IfSome a (λ xs. c ≡ Some (drop (through xs) xs))
     × IfSome a (λ xs. ends xs ≡ feed)
 
--- what no line feed ended, the input's end ended, or there was nothing
-pub no_feed : (there : Bool) (a : Option (List ℕ)) → IfSome a (λ xs. ends xs ≡ false) → IfSome a (λ xs. EndedBy (then_some there EndOfInput) xs)
+abbrev by_feed : Option Ending → Bool
+by_feed (Some LineFeed) = true
+by_feed (Some EndOfInput) = false
+by_feed None = false
+
+-- what no line feed ended is not said to be ended by one
+pub no_feed : (there : Bool) (a : Option (List ℕ)) → IfSome a (λ xs. ends xs ≡ false) → IfSome a (λ xs. (then_some there EndOfInput ≡ Some LineFeed) ↔ (ends xs ≡ true))
 no_feed there None e = tt
-no_feed true (Some xs) e = e
-no_feed false (Some xs) e = e
+no_feed true (Some xs) e = (λ u. absurd (true≢false (sym (ap by_feed u))), λ t. absurd (true≢false (sym t ∙ e)))
+no_feed false (Some xs) e = (λ u. absurd (true≢false (sym (ap by_feed u))), λ t. absurd (true≢false (sym t ∙ e)))
+
+-- what a line feed ended is said to be so
+pub some_feed : (a : Option (List ℕ)) → IfSome a (λ xs. ends xs ≡ true) → IfSome a (λ xs. (Some LineFeed ≡ Some LineFeed) ↔ (ends xs ≡ true))
+some_feed None e = tt
+some_feed (Some xs) e = (λ _. e, λ _. refl)
 
 pub is_there : (there : Bool) (ending : Ending) → is_some (then_some there ending) ≡ there
 is_there true ending = refl

@@ -1,14 +1,8 @@
 -- What reading does to an input, to an output, and to what is held of a line.
-use Rattle.std.specs.Prelude.{◌≡◌, ℕ, true, false, List, take, drop, None, Some, Ok, Err, Option, Result}
-use Rattle.text.specs.Lines.{front, through, ends}
+use Rattle.std.specs.Prelude.{◌≡◌, ℕ, List, take, drop, Some, Ok, Err, Option, Result}
+use Rattle.text.specs.Lines.{front, through}
 use Rattle.line_input.specs.declared.Ending.{Ending}
-use Rattle.line_input.specs.declared.Ending.TheVariants.{LineFeed, EndOfInput}
-
--- what ended the first line of these bytes, if there was one
-abbrev pub EndedBy : Option Ending → List ℕ → Type 0
-EndedBy None xs = ends xs ≡ false
-EndedBy (Some LineFeed) xs = ends xs ≡ true
-EndedBy (Some EndOfInput) xs = ends xs ≡ false
+use Rattle.line_input.specs.declared.Ending.TheVariants.{LineFeed}
 
 -- an input and an output are left as they were, without an error
 abbrev pub LeavesBoth : {I O V E : Type 0} → I → I → O → O → Result V E → Type 0

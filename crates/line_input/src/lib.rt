@@ -1,12 +1,12 @@
 //! Lines of an input, one after another.
 #![tactic(auto)]
 
-ghost use Rattle.std.specs.Prelude.{◌≡◌, ◌⊎◌, true, false, nat_lt, length, [], ◌++◌, take, drop, None, Some, is_some, IfSome, IfOk, OnOk};
+ghost use Rattle.std.specs.Prelude.{◌≡◌, ◌⊎◌, ◌↔◌, true, false, nat_lt, length, [], ◌++◌, take, drop, None, Some, is_some, IfSome, IfOk, OnOk};
 ghost use Rattle.std.specs.Io.Buffered.{reader_buffer, reader_inner, reader_remaining, writer_buffer, writer_contents};
 ghost use Rattle.std.specs.Io.BufRead.{DropsConsumable};
 ghost use Rattle.std.specs.Io.KnownBytes.{Keeps, IsAtEnd};
 ghost use Rattle.text.specs.Lines.{held, front, through, ends, CutsAnywhere};
-ghost use Rattle.line_input.specs.Inputs.{EndedBy, LeavesBoth, ReadsFirst};
+ghost use Rattle.line_input.specs.Inputs.{LeavesBoth, ReadsFirst};
 
 use std::io;
 use std::io::{BufRead, BufReader, BufWriter, Error, ErrorKind, Read, Write};
@@ -20,7 +20,8 @@ mod tests;
 pub enum Ending {
     /// A line feed. Another line may follow.
     LineFeed,
-    /// The end of the input: it was the last line, and lacks its line feed. The input need not be asked again.
+    /// The end of the input: it was the last line, and lacks its line feed. Who asks again waits, on a terminal, until its input is ended once
+    /// more.
     EndOfInput,
 }
 
@@ -35,7 +36,7 @@ pub fn read_line<const MOST: usize, R: Read, W: Write + Drop>(
 ) -> io::Result<Option<Ending>>
     ensures kept { OnOk result (IfSome (reader_remaining R.remaining input.old) (λ xs. held line.new ≡ take MOST (front xs))) }
     ensures there { IfOk result (λ ending. IfSome (reader_remaining R.remaining input.old) (λ xs. is_some ending ≡ nat_lt 0 (length xs))) }
-    ensures ended { IfOk result (λ ending. IfSome (reader_remaining R.remaining input.old) (λ xs. EndedBy ending xs)) }
+    ensures ended { IfOk result (λ ending. IfSome (reader_remaining R.remaining input.old) (λ xs. (ending ≡ Some Ending.LineFeed) ↔ (ends xs ≡ true))) }
     ensures rest { OnOk result (IfSome (reader_remaining R.remaining input.old) (λ xs.
         reader_remaining R.remaining input.new ≡ Some (drop (through xs) xs))) }
     ensures none { IfOk result (λ ending. ending ≡ None → held line.new ≡ []) }

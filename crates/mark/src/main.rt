@@ -22,7 +22,6 @@ fn main(rt: HostRuntime) -> io::Result<()> {
         };
         marker.answer(line.bytes(), &mut text);
         output.write_all(text.bytes())?;
-        // After its end the input is not asked again: on a terminal it would have to be ended once more.
         if ending == Ending::EndOfInput {
             break;
         }

@@ -55,7 +55,8 @@ pub(crate) fn cut<N: Notation>(
     bytes: &[u8],
     list: &mut ArrayVec<Token, MOST_BYTES>,
 )
-    requires { (length bytes.now ≤ 120) × (list.old.items ≡ []) }
+    requires short { length bytes.now ≤ 120 }
+    requires empty { list.old.items ≡ [] }
     ensures value { list.new.items ≡ tokens (N.Notation.reading notation.old) bytes.now }
     ensures few { length list.new.items ≤ 120 }
     ensures keeps_meaning { N.Alphabet.meaning notation.new ≡ N.Alphabet.meaning notation.old }

@@ -1,11 +1,11 @@
-use Rattle.std.proofs.Common.{◌≡◌, ◌==◌, ◌++◌, [], true, false, true≢false, ◌<◌, nat_lt, length, take, drop, IfSome, rules, refl, arith, sym, ap, ◌∙◌, subst, length-append}
+use Rattle.std.proofs.Common.{◌≡◌, ◌==◌, ◌↔◌, ◌++◌, [], true, false, true≢false, ◌<◌, nat_lt, length, take, drop, Some, IfSome, rules, refl, arith, sym, ap, ◌∙◌, subst, length-append}
 use Rattle.std.proofs.KnownBytes.{Consumes-trans}
 use Rattle.std.proofs.lemmas.Bool.{lt-ltb}
 use Rattle.std.specs.Io.Buffered.{reader_buffer, reader_remaining, reader_capacity}
 use Rattle.std.specs.Option.{is_some}
 use Rattle.text.specs.Lines.{held, front, through, ends}
-use Rattle.line_input.specs.Inputs.{EndedBy}
-use Rattle.line_input.proofs.Pieces.{Reads, no_feed, is_there, takes, held_first, all_taken, line_held, line_ended, input_ended}
+use Rattle.line_input.specs.declared.Ending.TheVariants.{LineFeed}
+use Rattle.line_input.proofs.Pieces.{Reads, no_feed, some_feed, is_there, takes, held_first, all_taken, line_held, line_ended, input_ended}
 use Rattle.line_input.proofs.read_line.Given.{Over}
 use Rattle.line_input.proofs.read_line.Goals.{Then-ended, After-then_some}
 use Rattle.line_input.proofs.read_line.Goals as goal
@@ -52,7 +52,7 @@ pub returns-then-ended-clause-rest : goal.returns-then-ended-clause-rest
 returns-then-ended-clause-rest g c = (at_line_feed g c).2
 
 pub returns-then-ended-clause-ended : goal.returns-then-ended-clause-ended
-returns-then-ended-clause-ended g c = (at_line_feed g c).3
+returns-then-ended-clause-ended g c = some_feed _ (at_line_feed g c).3
 
 pub returns-then-n-eq0-clause-kept : goal.returns-then-n-eq0-clause-kept
 returns-then-n-eq0-clause-kept g c = (at_end g c).0
@@ -66,7 +66,7 @@ returns-then-n-eq0-clause-rest g c = (at_end g c).2
 
 pub returns-then-n-eq0-clause-ended : goal.returns-then-n-eq0-clause-ended
 returns-then-n-eq0-clause-ended g c =
-    subst (λ ending. IfSome (reader_remaining g.R.Read.remaining c.args.input.now) (λ xs. EndedBy ending xs)) (sym c.then_some.ensures) (no_feed c.loop.there _ (at_end g c).3)
+    subst (λ ending. IfSome (reader_remaining g.R.Read.remaining c.args.input.now) (λ xs. (ending ≡ Some LineFeed) ↔ (ends xs ≡ true))) (sym c.then_some.ensures) (no_feed c.loop.there _ (at_end g c).3)
 
 pub loop-preserved : goal.loop-preserved
 loop-preserved g c =
